@@ -1,0 +1,53 @@
+ghost use mathlib.Core.Path.{_≡_};
+ghost use Prim.Native.Nat.{_≤_};
+ghost use lib.ListN.{length};
+// Making a gate, and taking it apart.
+mod making;
+// Which calls are refused.
+mod refusals;
+// Begin and step.
+mod moving;
+// Admit and leave.
+mod passing;
+// Look, tally, and what a report wants to know.
+mod watching;
+// Whether two gates are alike.
+pub mod comparing;
+
+use crate::arm::ARM_LIMIT;
+use crate::arm::Arm;
+use crate::position::Phase;
+use bank::interface::Bank;
+
+// Steps up to 32 arms towards a shared section. It owns its bank.
+#[derive(Drop)]
+pub struct Gate<B: Bank> {
+    bank: B,
+    number: u16,
+    n: usize,
+    arms: [Arm; ARM_LIMIT],
+    ghost few: { n ≤ 32 },
+    ghost full: { length arms ≡ 32 },
+}
+
+// What look tells of an arm.
+#[derive(Clone, Copy)]
+pub struct View {
+    pub phase: Phase,
+    // None where it is missing.
+    pub side: Option<u64>,
+    // The arm that a waiting arm looks at, else 0.
+    pub index: usize,
+    pub visits: u32,
+    // Whether its pass is out.
+    pub out: bool,
+}
+
+// What tally tells of two arms.
+#[derive(Clone, Copy)]
+pub struct Tally {
+    // How often the other went inside past the first.
+    pub count: u8,
+    // Whether the other was idle when the first ended its doorway.
+    pub idle: bool,
+}

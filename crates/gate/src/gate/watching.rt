@@ -1,0 +1,69 @@
+ghost use mathlib.Core.Path.{_≡_};
+ghost use lib.ListN.{getD};
+ghost use Rattle.gate.specs.Calls.{index-of, look-answer, tally-answer};
+ghost use Rattle.gate.specs.Positions.{group};
+ghost use Rattle.gate.specs.Whole.{whole};
+use crate::access::value_at;
+use crate::gate::Gate;
+use crate::gate::Tally;
+use crate::gate::View;
+use crate::position::Position;
+use crate::refusal::Refusal;
+use bank::interface::Bank;
+
+// The arm that a waiting arm looks at, else 0.
+fn index_of(position: Position) -> usize
+    ensures { λ r. ⌜ r ≡ index-of position ⌝ }
+{
+    match position {
+        Position::Waiting { index, place: _ } => usize::from(index),
+        _ => 0,
+    }
+}
+
+impl<B: Bank> Gate<B> {
+    // How many arms the gate has.
+    pub fn arm_count(&self) -> usize
+        ensures { λ r. ⌜ r ≡ now (self .entry) .n ⌝ }
+    {
+        self.n
+    }
+
+    // The value of the group register; 0 where the bank has none.
+    pub fn group(&self) -> u64
+        ensures { λ r. ⌜ r ≡ getD (values (now (self .entry) .bank)) group 0 ⌝ }
+    {
+        value_at(&self.bank, 0)
+    }
+
+    // Phase, side, index, visits and mark of an arm.
+    pub fn look(&self, arm: usize) -> Result<View, Refusal>
+        ensures { λ r. ⌜ r ≡ look-answer (whole highest values (now (self .entry))) arm ⌝ }
+    {
+        if !self.is_arm(arm) {
+            return Err(Refusal::NoArm);
+        }
+        let record = self.arms[arm - 1];
+        Ok(View {
+            phase: record.position.phase(),
+            side: record.side,
+            index: index_of(record.position),
+            visits: record.visits,
+            out: record.out,
+        })
+    }
+
+    // How often the other arm went inside past this one, and whether it was idle when this one ended its doorway.
+    pub fn tally(&self, arm: usize, other: usize) -> Result<Tally, Refusal>
+        ensures { λ r. ⌜ r ≡ tally-answer (whole highest values (now (self .entry))) arm other ⌝ }
+    {
+        if !self.is_arm(arm) || !self.is_arm(other) {
+            return Err(Refusal::NoArm);
+        }
+        let record = self.arms[arm - 1];
+        Ok(Tally {
+            count: record.row[other - 1],
+            idle: record.notes[other - 1],
+        })
+    }
+}

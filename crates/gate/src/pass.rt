@@ -1,0 +1,28 @@
+ghost use mathlib.Core.Path.{_≡_};
+ghost use mathlib.Core.Bool.{true};
+use crate::refusal::Refusal;
+
+// Names a gate and an arm that is inside. The gate's leave spends it; only then may it be dropped.
+pub struct Pass {
+    pub(crate) gate: u16,
+    pub(crate) arm: usize,
+    pub(crate) spent: bool,
+}
+
+impl Drop for Pass {
+    fn drop(self)
+        requires { ⌜ self .spent ≡ true ⌝ }
+    {
+        let Pass {
+            gate: _,
+            arm: _,
+            spent: _,
+        } = self;
+    }
+}
+
+// A pass that was not taken, handed back with the refusal.
+pub struct HandedBack {
+    pub pass: Pass,
+    pub refusal: Refusal,
+}
