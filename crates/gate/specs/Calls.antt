@@ -142,13 +142,16 @@ index-of (At.Waiting j p) = j
 index-of At.Inside = 0
 index-of (At.Leaving x) = 0
 
+-- what look tells of a record
+abbrev pub view-of : Arm → View
+view-of a = record { phase = phase-of (a .position); side = a .side; index = index-of (a .position); visits = a .visits; out = a .out }
+
 abbrev pub look-answer : State → ℕ → Result View Refusal
-look-answer s i =
-    let a = arm-at s i in
-    answered (refusal-of s (look i))
-    (record { phase = phase-of (a .position); side = a .side; index = index-of (a .position); visits = a .visits; out = a .out })
+look-answer s i = answered (refusal-of s (look i)) (view-of (arm-at s i))
+
+-- what tally tells of a record and another arm
+abbrev pub tally-of : Arm → ℕ → Tally
+tally-of a b = record { count = getD (a .row) (b - 1) 0; idle = getD (a .notes) (b - 1) false }
 
 abbrev pub tally-answer : State → ℕ → ℕ → Result Tally Refusal
-tally-answer s w b =
-    answered (refusal-of s (tally w b))
-    (record { count = getD (arm-at s w .row) (b - 1) 0; idle = getD (arm-at s w .notes) (b - 1) false })
+tally-answer s w b = answered (refusal-of s (tally w b)) (tally-of (arm-at s w) b)

@@ -8,3 +8,4 @@ pub mod States
 pub mod Calls
 pub mod Whole
 pub mod Alike
+pub mod Bounded

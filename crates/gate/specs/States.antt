@@ -1,11 +1,11 @@
 -- The state of a gate.
 use Prim.Native.Nat.{ℕ, _-_}
-use mathlib.Core.Bool.{Bool, _&&_}
+use mathlib.Core.Bool.{Bool, cond, _&&_}
 use mathlib.Core.List.{List}
 use lib.ListN.{length, getD, set, replicate}
-use lib.Dec.{leb}
+use lib.Dec.{eqb, leb}
 use Rattle.gate.specs.Limits.{arm-limit}
-use Rattle.gate.specs.Positions.{phase-of}
+use Rattle.gate.specs.Positions.{group, phase-of}
 use Rattle.gate.specs.Arms.{fresh, no-arm}
 use Rattle.gate.specs.Making.{made-regs, arms-for}
 use Rattle.gate.specs.declared.arm.Arm.{Arm}
@@ -47,3 +47,7 @@ with-table regs arms s = record { high = s .high; number = s .number; n = s .n; 
 -- another record for arm i
 abbrev pub with-arm : ℕ → Arm → State → State
 with-arm i a s = with-table (s .regs) (set (s .arms) (i - 1) a) s
+
+-- the group bit; 0 where the gate has no arms
+abbrev pub bit-of : State → ℕ
+bit-of s = cond (eqb (s .n) 0) 0 (getD (s .regs) group 0)

@@ -67,7 +67,7 @@ pub enum Position {
 }
 
 // The register of the group.
-const GROUP: usize = 0;
+pub(crate) const GROUP: usize = 0;
 
 // The three registers of arm i.
 fn choosing(i: usize) -> usize

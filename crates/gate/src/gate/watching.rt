@@ -1,12 +1,12 @@
 ghost use mathlib.Core.Path.{_≡_};
-ghost use lib.ListN.{getD};
 ghost use Rattle.gate.specs.Calls.{index-of, look-answer, tally-answer};
-ghost use Rattle.gate.specs.Positions.{group};
+ghost use Rattle.gate.specs.States.{bit-of};
 ghost use Rattle.gate.specs.Whole.{whole};
 use crate::access::value_at;
 use crate::gate::Gate;
 use crate::gate::Tally;
 use crate::gate::View;
+use crate::position::GROUP;
 use crate::position::Position;
 use crate::refusal::Refusal;
 use bank::interface::Bank;
@@ -29,11 +29,14 @@ impl<B: Bank> Gate<B> {
         self.n
     }
 
-    // The value of the group register; 0 where the bank has none.
-    pub fn group(&self) -> u64
-        ensures { λ r. ⌜ r ≡ getD (values (now (self .entry) .bank)) group 0 ⌝ }
+    // The group bit; 0 where the gate has no arms.
+    pub fn bit(&self) -> u64
+        ensures { λ r. ⌜ r ≡ bit-of (whole highest values (now (self .entry))) ⌝ }
     {
-        value_at(&self.bank, 0)
+        if self.n == 0 {
+            return 0;
+        }
+        value_at(&self.bank, GROUP)
     }
 
     // Phase, side, index, visits and mark of an arm.
