@@ -38,16 +38,19 @@ use Rattle.gate.proofs.Rooms.{arms-few}
 pub kept-set : {X : Type 0} (P : X → Type 0) (xs : List X) (i : ℕ) (x d : X) → ((k : ℕ) → P (getD xs k d)) → P x → (k : ℕ) → P (getD (set xs i x) k d)
 kept-set P xs i x d all one k =
     elim (cases-eq k i) [
-      inl e ↦ elim (cases-lt i (length xs)) [
-        inl l ↦ subst P (sym (ap (λ j. getD (set xs i x) j d) e ∙ getD-set-same xs i x d l)) one
-      | inr l ↦ subst (λ ys. P (getD ys k d)) (sym (set-past xs i x l)) (all k) ]
-    | inr n ↦ subst P (sym (getD-set-other xs i k x d n)) (all k) ]
+      | inl e ↦ elim (cases-lt i (length xs)) [
+        | inl l ↦ subst P (sym (ap (λ j. getD (set xs i x) j d) e ∙ getD-set-same xs i x d l)) one
+        | inr l ↦ subst (λ ys. P (getD ys k d)) (sym (set-past xs i x l)) (all k)
+      ]
+      | inr n ↦ subst P (sym (getD-set-other xs i k x d n)) (all k)
+    ]
 
 kept-replicate : {X : Type 0} (P : X → Type 0) (n : ℕ) (x d : X) → P x → P d → (k : ℕ) → P (getD (replicate n x) k d)
 kept-replicate P n x d px pd k =
     elim (cases-lt k n) [
-      inl l ↦ subst P (sym (getD-replicate n k x d l)) px
-    | inr l ↦ subst P (sym (getD-past (replicate n x) k d (subst (λ m. m ≤ k) (sym (length-replicate n x)) l))) pd ]
+      | inl l ↦ subst P (sym (getD-replicate n k x d l)) px
+      | inr l ↦ subst P (sym (getD-past (replicate n x) k d (subst (λ m. m ≤ k) (sym (length-replicate n x)) l))) pd
+    ]
 
 zeros : (n k : ℕ) → getD (replicate n 0) k 0 ≤ tally-limit
 zeros n k = kept-replicate (λ v. v ≤ tally-limit) n 0 0 (omega arith) (omega arith) k
@@ -81,10 +84,12 @@ written-bit : (high : ℕ) (regs : List ℕ) (q v : ℕ) → getD regs group 0 �
 written-bit high regs q v h b =
     cond-both (can-hold high regs q v) _ _ (λ rs. getD rs group 0 ≤ 1)
     (λ _. elim (cases-eq group q) [
-      inl e ↦ elim (cases-lt q (length regs)) [
-        inl l ↦ subst (λ x. x ≤ 1) (sym (ap (λ j. getD (set regs q v) j 0) e ∙ getD-set-same regs q v 0 l)) b
-      | inr l ↦ subst (λ rs. getD rs group 0 ≤ 1) (sym (set-past regs q v l)) h ]
-    | inr n ↦ subst (λ x. x ≤ 1) (sym (getD-set-other regs q group v 0 n)) h ])
+      | inl e ↦ elim (cases-lt q (length regs)) [
+        | inl l ↦ subst (λ x. x ≤ 1) (sym (ap (λ j. getD (set regs q v) j 0) e ∙ getD-set-same regs q v 0 l)) b
+        | inr l ↦ subst (λ rs. getD rs group 0 ≤ 1) (sym (set-past regs q v l)) h
+      ]
+      | inr n ↦ subst (λ x. x ≤ 1) (sym (getD-set-other regs q group v 0 n)) h
+    ])
     (λ _. h)
 
 access-bit : (high : ℕ) (regs : List ℕ) (a : Access) → getD regs group 0 ≤ 1 → Writes-bit a → getD (regs-after high regs a) group 0 ≤ 1
@@ -151,8 +156,8 @@ stepped-bounded i s some h =
       few = h .few;
       bit = λ _. access-bit (s .high) (s .regs) (access-at s i) (h .bit some) (writes-bit i (side-of (a .side)) (a .position) (b .bit));
       each = tallied-bounded (i - 1) (phase-at s i) (phase-of (arm-after s i .position)) (set (s .arms) (i - 1) (arm-after s i))
-        (kept-set Bounded-arm (s .arms) (i - 1) (arm-after s i) no-arm (h .each)
-          (record { bit = side-bit i (s .regs) (a .position) (a .side) (h .bit some) (b .bit); begun = b .begun; counts = b .counts }))
+          (kept-set Bounded-arm (s .arms) (i - 1) (arm-after s i) no-arm (h .each)
+          (record { bit = side-bit i (s .regs) (a .position) (a .side) (h .bit some) (b .bit); begun = b .begun; counts = b .counts }));
     }
 
 -- whether a call was accepted or refused
@@ -194,9 +199,9 @@ after-bounded s (begin i) h =
     let a = arm-at s i in
     unless-both (refusal-of s (begin i)) (done s (begin i)) s Bounded
     (λ e.
-      let below = begin-below (phase-at s i) (a .visits) (for-arm-none (is-arm s i) (begin-refusal (phase-at s i) (a .visits)) e) in
-      with-arm-bounded i (with-visit (Doorway D1) (a .visits + 1) (a .out) a) s h
-      (visit-bounded (Doorway D1) (a .visits + 1) (a .out) a (omega arith) (h .each (i - 1))))
+    let below = begin-below (phase-at s i) (a .visits) (for-arm-none (is-arm s i) (begin-refusal (phase-at s i) (a .visits)) e) in
+    with-arm-bounded i (with-visit (Doorway D1) (a .visits + 1) (a .out) a) s h
+    (visit-bounded (Doorway D1) (a .visits + 1) (a .out) a (omega arith) (h .each (i - 1))))
     h
 after-bounded s (step i) h = unless-both (refusal-of s (step i)) (done s (step i)) s Bounded (λ e. stepped-bounded i s (some-arm s i (step-refusal (phase-at s i)) e) h) h
 after-bounded s (admit i) h =
@@ -227,5 +232,5 @@ made-bounded high number wanted regs =
     record {
       few = arms-few high (length regs) wanted;
       bit = made-bit (arms-for high (length regs) wanted) regs;
-      each = kept-replicate Bounded-arm arm-limit fresh no-arm fresh-bounded no-arm-bounded
+      each = kept-replicate Bounded-arm arm-limit fresh no-arm fresh-bounded no-arm-bounded;
     }

@@ -33,10 +33,7 @@ fn next_arm(n: usize, j: u8) -> Position
     ensures { λ r. ⌜ r ≡ onward n j ⌝ }
 {
     if usize::from(j) < n {
-        Position::Waiting {
-            index: j + 1,
-            place: Place::W1,
-        }
+        Position::Waiting(j + 1, Place::W1)
     } else {
         Position::Inside
     }
@@ -66,115 +63,19 @@ impl Arm {
             (Position::Doorway(Doorway::D2), _) => Position::Doorway(Doorway::D3),
             (Position::Doorway(Doorway::D3), _) => Position::Doorway(Doorway::D4),
             (Position::Doorway(Doorway::D4), _) => Position::Doorway(Doorway::D5),
-            (Position::Doorway(Doorway::D5), _) => Position::Waiting {
-                index: 1,
-                place: Place::W1,
-            },
-            (
-                Position::Waiting {
-                    index: _,
-                    place: Place::W1,
-                },
-                v,
-            ) if v != side => Position::Inside,
-            (
-                Position::Waiting {
-                    index,
-                    place: Place::W1,
-                },
-                _,
-            ) => Position::Waiting {
-                index,
-                place: Place::W2,
-            },
-            (
-                Position::Waiting {
-                    index,
-                    place: Place::W2,
-                },
-                0,
-            ) => Position::Waiting {
-                index,
-                place: Place::W3,
-            },
-            (
-                Position::Waiting {
-                    index,
-                    place: Place::W2,
-                },
-                _,
-            ) => Position::Waiting {
-                index,
-                place: Place::W2,
-            },
-            (
-                Position::Waiting {
-                    index,
-                    place: Place::W3,
-                },
-                v,
-            ) if v == side => next_arm(n, index),
-            (
-                Position::Waiting {
-                    index,
-                    place: Place::W3,
-                },
-                _,
-            ) => Position::Waiting {
-                index,
-                place: Place::W4,
-            },
-            (
-                Position::Waiting {
-                    index,
-                    place: Place::W4,
-                },
-                0,
-            ) => next_arm(n, index),
-            (
-                Position::Waiting {
-                    index,
-                    place: Place::W4,
-                },
-                _,
-            ) => Position::Waiting {
-                index,
-                place: Place::W5,
-            },
-            (
-                Position::Waiting {
-                    index,
-                    place: Place::W5,
-                },
-                v,
-            ) if v != side => next_arm(n, index),
-            (
-                Position::Waiting {
-                    index,
-                    place: Place::W5,
-                },
-                _,
-            ) => Position::Waiting {
-                index,
-                place: Place::W6,
-            },
-            (
-                Position::Waiting {
-                    index,
-                    place: Place::W6,
-                },
-                v,
-            ) if v == side => next_arm(n, index),
-            (
-                Position::Waiting {
-                    index,
-                    place: Place::W6,
-                },
-                _,
-            ) => Position::Waiting {
-                index,
-                place: Place::W4,
-            },
+            (Position::Doorway(Doorway::D5), _) => Position::Waiting(1, Place::W1),
+            (Position::Waiting(_, Place::W1), v) if v != side => Position::Inside,
+            (Position::Waiting(j, Place::W1), _) => Position::Waiting(j, Place::W2),
+            (Position::Waiting(j, Place::W2), 0) => Position::Waiting(j, Place::W3),
+            (Position::Waiting(j, Place::W2), _) => Position::Waiting(j, Place::W2),
+            (Position::Waiting(j, Place::W3), v) if v == side => next_arm(n, j),
+            (Position::Waiting(j, Place::W3), _) => Position::Waiting(j, Place::W4),
+            (Position::Waiting(j, Place::W4), 0) => next_arm(n, j),
+            (Position::Waiting(j, Place::W4), _) => Position::Waiting(j, Place::W5),
+            (Position::Waiting(j, Place::W5), v) if v != side => next_arm(n, j),
+            (Position::Waiting(j, Place::W5), _) => Position::Waiting(j, Place::W6),
+            (Position::Waiting(j, Place::W6), v) if v == side => next_arm(n, j),
+            (Position::Waiting(j, Place::W6), _) => Position::Waiting(j, Place::W4),
             (Position::Inside, _) => Position::Inside,
             (Position::Leaving(Exit::X1), _) => Position::Leaving(Exit::X2),
             (Position::Leaving(Exit::X2), _) => Position::Idle,

@@ -56,12 +56,12 @@ pub enum Exit {
     X2,
 }
 
-// Where an arm stands. A waiting arm looks at the arm of its index, from 1.
+// Where an arm stands. A waiting arm has the index of the arm that it looks at, from 1, and its place.
 #[derive(Clone, Copy)]
 pub enum Position {
     Idle,
     Doorway(Doorway),
-    Waiting { index: u8, place: Place },
+    Waiting(u8, Place),
     Inside,
     Leaving(Exit),
 }
@@ -113,7 +113,7 @@ impl Position {
         match self {
             Position::Idle => Phase::I,
             Position::Doorway(_) => Phase::D,
-            Position::Waiting { .. } => Phase::W,
+            Position::Waiting(_, _) => Phase::W,
             Position::Inside => Phase::F,
             Position::Leaving(_) => Phase::X,
         }
@@ -131,7 +131,7 @@ impl Position {
             Position::Doorway(Doorway::D3) => Access::Write(mygroup(i), side),
             Position::Doorway(Doorway::D4) => Access::Write(flag(i), 1),
             Position::Doorway(Doorway::D5) => Access::Write(choosing(i), 0),
-            Position::Waiting { index, place } => Access::Read(place.register(usize::from(index))),
+            Position::Waiting(j, place) => Access::Read(place.register(usize::from(j))),
             Position::Leaving(Exit::X1) => Access::Write(GROUP, 1u64.saturating_sub(side)),
             Position::Leaving(Exit::X2) => Access::Write(flag(i), 0),
         }

@@ -53,7 +53,7 @@ ready-from file room h = go (leb (length file) file-limit) (leb report-room room
     go true true x y e =
         record {
           same = cond-true _ _ _ x ∙ cond-true _ _ _ y;
-          enough = leb-true report-room room y
+          enough = leb-true report-room room y;
         }
     go true false x y e =
         let f : playable file room ≡ Err ShortMemory = ap (λ q. cond q (cond (leb report-room room) (says file) (Err ShortMemory)) (Err LongFile)) x ∙ ap (λ q. cond q (says file) (Err ShortMemory)) y in
@@ -74,9 +74,8 @@ report-taken memory s orders no-ones b o r h =
 
 -- what a play comes to, once the gate is made and the orders are obeyed
 module _ (high : ℕ) (regs memory file : List ℕ) (h : Heading) (e : Ok h ≡ heading-of (playable file (length memory)))
-  (g₀ g₁ : State) (no-ones : ℕ) (made-is : g₀ ≡ made high 0 (h .arms) regs) (after-is : g₁ ≡ obeyed-by (says file) g₀)
-  (refused-is : no-ones ≡ refused-by (says file) g₀) (few : h .orders < 2 ^ 64) (fewer : no-ones < 2 ^ 64) where
-
+    (g₀ g₁ : State) (no-ones : ℕ) (made-is : g₀ ≡ made high 0 (h .arms) regs) (after-is : g₁ ≡ obeyed-by (says file) g₀)
+    (refused-is : no-ones ≡ refused-by (says file) g₀) (few : h .orders < 2 ^ 64) (fewer : no-ones < 2 ^ 64) where
   says-it : Said (playable file (length memory)) h
   says-it = said (playable file (length memory)) h e
 
@@ -97,7 +96,7 @@ module _ (high : ℕ) (regs memory file : List ℕ) (h : Heading) (e : Ok h ≡ 
       ap (λ s. report-text s (h .orders) no-ones) end-is
       ∙ ap (λ k. report-text (end high regs contents) k no-ones) (sym (says-it .all))
       ∙ ap (report-text (end high regs contents) (length (contents .orders)))
-        (refused-is ∙ ap (λ r. refused-by r g₀) file-is ∙ ap (λ s. refusals s (contents .orders)) made-is)
+      (refused-is ∙ ap (λ r. refused-by r g₀) file-is ∙ ap (λ s. refusals s (contents .orders)) made-is)
 
   taken : takes memory (report-text g₁ (h .orders) no-ones) ≡ true
   taken = report-taken memory g₁ (h .orders) no-ones (subst Bounded (sym end-is) (end-bounded high regs contents)) few fewer (here .enough)

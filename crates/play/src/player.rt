@@ -23,6 +23,7 @@ use schedule::reader::check;
 use schedule::reader::order_at;
 
 // The bank of a play that is over, and the length of its report or why there was none.
+#[derive(Drop)]
 pub struct Played<B> {
     pub bank: B,
     pub answer: Result<usize, PlayFault>,
@@ -121,10 +122,16 @@ pub fn play<B: Bank>(file: &[u8], bank: B, memory: &mut [u8], service: &mut u8) 
     let _guard = Service::start(service);
     let heading = match ready(file, memory.len()) {
         Ok(heading) => heading,
-        Err(fault) => return Played { bank, answer: Err(fault) },
+        Err(fault) => return Played {
+            bank,
+            answer: Err(fault),
+        },
     };
     let mut gate = Gate::make(bank, 0, usize::from(heading.arms));
     let refused = obey_all(&mut gate, file, heading);
     let answer = report(&gate, heading.orders, refused, memory);
-    Played { bank: gate.into_bank(), answer }
+    Played {
+        bank: gate.into_bank(),
+        answer,
+    }
 }

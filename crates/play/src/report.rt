@@ -144,7 +144,12 @@ fn write_first<B: Bank>(page: &mut Page, gate: &Gate<B>, orders: usize, refused:
 }
 
 // Puts the report of a gate after so many orders, of which some were refused, at the start of the memory, and answers its length.
-pub fn report<B: Bank>(gate: &Gate<B>, orders: usize, refused: usize, memory: &mut [u8]) -> Result<usize, PlayFault>
+pub fn report<B: Bank>(
+    gate: &Gate<B>,
+    orders: usize,
+    refused: usize,
+    memory: &mut [u8],
+) -> Result<usize, PlayFault>
     ensures answer { λ r. ⌜ r ≡ text-answer (now (memory .entry)) (report-text (whole highest values (now (gate .entry))) orders refused) ⌝ }
     ensures after { λ _. ⌜ now (memory .exit) ≡ text-memory (now (memory .entry)) (report-text (whole highest values (now (gate .entry))) orders refused) ⌝ }
 {

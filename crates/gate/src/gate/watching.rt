@@ -16,7 +16,7 @@ fn index_of(position: Position) -> usize
     ensures { λ r. ⌜ r ≡ index-of position ⌝ }
 {
     match position {
-        Position::Waiting { index, place: _ } => usize::from(index),
+        Position::Waiting(j, _) => usize::from(j),
         _ => 0,
     }
 }
@@ -33,7 +33,7 @@ impl<B: Bank> Gate<B> {
     pub fn bit(&self) -> u64
         ensures { λ r. ⌜ r ≡ bit-of (whole highest values (now (self .entry))) ⌝ }
     {
-        if self.n == 0 {
+        if self.arm_count() == 0 {
             return 0;
         }
         value_at(&self.bank, GROUP)

@@ -30,11 +30,12 @@ loop-i-again g c =
     let n = next-told file (c .loop-i .at) i all p (c .loop-i .inv .0) (sym (c .in-Ok-order-at .ensures tt)) in
     let moved = c .obey .ensures .after in
     let counted : c .count-refused .result ≡ unless (order-refusal s (p .order)) 0 1 = c .count-refused .ensures .value ∙ ap (λ r. unless r 0 1) (c .obey .ensures .answer) in
-    let more = refusals-more s t (drop i all) (drop (i + 1) all) (p .order) (n .1) moved in
-    (n .0,
-    omega (arith, c .count-refused .ensures .bound, c .loop-i .inv .1),
-    omega (arith, more, counted, c .loop-i .inv .2),
-    obeyed-more s t (drop i all) (drop (i + 1) all) (p .order) (n .1) moved ∙ c .loop-i .inv .3)
+    let more = refusals-more s t (drop i all) (drop (i + 1) all) (p .order) (n .1) moved in (
+      n .0,
+      omega (arith, c .count-refused .ensures .bound, c .loop-i .inv .1),
+      omega (arith, more, counted, c .loop-i .inv .2),
+      obeyed-more s t (drop i all) (drop (i + 1) all) (p .order) (n .1) moved ∙ c .loop-i .inv .3,
+    )
 
 pub returns : need.returns
 returns g c =
@@ -47,6 +48,6 @@ returns g c =
     let no-more = ap (refusals here) none in
     record {
       refused = let total : c .loop-i .refused ≡ refusals (whole (g .B·Bank .highest) (g .B·Bank .values) (c .args .gate .now)) (told (says (c .args .file .now))) = omega (arith, no-more, c .loop-i .inv .2) in
-        total ∙ sym (refused-told (says file) (c .args .heading) (c .pre) from);
-      after = sym (ap (obeyed-all here) none) ∙ c .loop-i .inv .3 ∙ sym (obeyed-told (says file) (c .args .heading) (c .pre) from)
+          total ∙ sym (refused-told (says file) (c .args .heading) (c .pre) from);
+      after = sym (ap (obeyed-all here) none) ∙ c .loop-i .inv .3 ∙ sym (obeyed-told (says file) (c .args .heading) (c .pre) from);
     }

@@ -18,7 +18,7 @@ returns-in-Err g c =
       answer = sym (ap (play-answer high regs) e);
       registers = sym (ap (play-regs high regs) e);
       report = sym (ap (play-memory high regs (c .args .memory .now)) e);
-      restored = search needs
+      restored = search needs;
     }
 
 pub returns : need.returns
@@ -40,5 +40,5 @@ returns g c =
       answer = c .report-answer .ensures .answer ∙ answer-is high regs memory file h e g₀ g₁ k made-is (c .obey-all-refused .ensures .after) (c .obey-all-refused .ensures .refused) few fewer;
       registers = ap values (c .into-bank .ensures) ∙ regs-is high regs memory file h e g₀ g₁ k made-is (c .obey-all-refused .ensures .after) (c .obey-all-refused .ensures .refused) few fewer;
       report = c .report-answer .ensures .after ∙ memory-is high regs memory file h e g₀ g₁ k made-is (c .obey-all-refused .ensures .after) (c .obey-all-refused .ensures .refused) few fewer;
-      restored = search needs
+      restored = search needs;
     }

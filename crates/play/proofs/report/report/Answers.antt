@@ -21,5 +21,5 @@ returns g c =
     let t = h .text ∙ ap (λ k. first-line (whole (g .B·Bank .highest) (g .B·Bank .values) (c .args .gate .now)) (c .args .orders) (c .args .refused) ++ lines (arm-line (whole (g .B·Bank .highest) (g .B·Bank .values) (c .args .gate .now))) k) all in
     record {
       answer = c .deliver .ensures .answer ∙ ap (text-answer (c .args .memory .now)) t;
-      after = c .deliver .ensures .after ∙ ap (text-memory (c .args .memory .now)) t
+      after = c .deliver .ensures .after ∙ ap (text-memory (c .args .memory .now)) t;
     }

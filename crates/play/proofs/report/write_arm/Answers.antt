@@ -21,5 +21,5 @@ returns g c =
           then c .byte-5 .ensures
           then reading (ap decimal (c .largest .ensures)) (c .number-3 .ensures .added)
           then c .byte-6 .ensures;
-      short = search needs
+      short = search needs;
     }

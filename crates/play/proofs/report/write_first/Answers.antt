@@ -13,5 +13,5 @@ returns g c =
           then c .text-3 .ensures then c .number-3 .ensures .added
           then c .text-4 .ensures then reading (ap decimal (c .bit .ensures)) (c .number-4 .ensures .added)
           then c .byte .ensures;
-      short = search needs
+      short = search needs;
     }
