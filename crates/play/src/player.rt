@@ -112,14 +112,11 @@ fn ready(file: &[u8], room: usize) -> Result<Heading, PlayFault>
 }
 
 // Plays a file on gate 0 over a bank, puts the report at the start of the memory, and hands the bank back.
-// The file is checked whole first: a fault leaves bank and memory as they were. The service byte reads 1 meanwhile.
-pub fn play<B: Bank>(file: &[u8], bank: B, memory: &mut [u8], service: &mut u8) -> Played<B>
+fn perform<B: Bank>(file: &[u8], bank: B, memory: &mut [u8]) -> Played<B>
     ensures answer { λ r. ⌜ r .answer ≡ play-answer highest (values bank) (playable (now (file .entry)) (length (now (memory .entry)))) ⌝ }
     ensures registers { λ r. ⌜ values (r .bank) ≡ play-regs highest (values bank) (playable (now (file .entry)) (length (now (memory .entry)))) ⌝ }
     ensures report { λ _. ⌜ now (memory .exit) ≡ play-memory highest (values bank) (now (memory .entry)) (playable (now (file .entry)) (length (now (memory .entry)))) ⌝ }
-    ensures restored { λ _. ⌜ now (service .exit) ≡ now (service .entry) ⌝ }
 {
-    let _guard = Service::start(service);
     let heading = match ready(file, memory.len()) {
         Ok(heading) => heading,
         Err(fault) => return Played {
@@ -134,4 +131,16 @@ pub fn play<B: Bank>(file: &[u8], bank: B, memory: &mut [u8], service: &mut u8) 
         bank: gate.into_bank(),
         answer,
     }
+}
+
+// Plays a file on gate 0 over a bank, puts the report at the start of the memory, and hands the bank back.
+// The file is checked whole first: a fault leaves bank and memory as they were. The service byte reads 1 meanwhile.
+pub fn play<B: Bank>(file: &[u8], bank: B, memory: &mut [u8], service: &mut u8) -> Played<B>
+    ensures answer { λ r. ⌜ r .answer ≡ play-answer highest (values bank) (playable (now (file .entry)) (length (now (memory .entry)))) ⌝ }
+    ensures registers { λ r. ⌜ values (r .bank) ≡ play-regs highest (values bank) (playable (now (file .entry)) (length (now (memory .entry)))) ⌝ }
+    ensures report { λ _. ⌜ now (memory .exit) ≡ play-memory highest (values bank) (now (memory .entry)) (playable (now (file .entry)) (length (now (memory .entry)))) ⌝ }
+    ensures restored { λ _. ⌜ now (service .exit) ≡ now (service .entry) ⌝ }
+{
+    let _guard = Service::start(service);
+    perform(file, bank, memory)
 }

@@ -7,7 +7,7 @@ use Rattle.gate.specs.Whole.{whole}
 use Rattle.schedule.proofs.Told.{refused}
 use Rattle.play.specs.Playing.{playable, play-answer, play-regs, play-memory}
 use Rattle.play.proofs.Ends.{answer-is, memory-is, regs-is}
-use Rattle.play.proofs.player.play.Needs as need
+use Rattle.play.proofs.player.perform.Needs as need
 
 pub returns-in-Err : need.returns-in-Err
 returns-in-Err g c =
@@ -18,7 +18,6 @@ returns-in-Err g c =
       answer = sym (ap (play-answer high regs) e);
       registers = sym (ap (play-regs high regs) e);
       report = sym (ap (play-memory high regs (c .args .memory .now)) e);
-      restored = search needs;
     }
 
 pub returns : need.returns
@@ -40,5 +39,4 @@ returns g c =
       answer = c .report-answer .ensures .answer ∙ answer-is high regs memory file h e g₀ g₁ k made-is (c .obey-all-refused .ensures .after) (c .obey-all-refused .ensures .refused) few fewer;
       registers = ap values (c .into-bank .ensures) ∙ regs-is high regs memory file h e g₀ g₁ k made-is (c .obey-all-refused .ensures .after) (c .obey-all-refused .ensures .refused) few fewer;
       report = c .report-answer .ensures .after ∙ memory-is high regs memory file h e g₀ g₁ k made-is (c .obey-all-refused .ensures .after) (c .obey-all-refused .ensures .refused) few fewer;
-      restored = search needs;
     }
