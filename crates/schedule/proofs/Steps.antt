@@ -1,25 +1,23 @@
 -- One more order of a file.
-use Prim.Native.Nat.{ℕ, _+_, _-_, _<_, _≤_}
-use mathlib.Core.Path.{_≡_, refl, sym, ap, subst, _∙_}
+use Prim.Native.Nat.{ℕ, _+_, _<_, _≤_}
+use mathlib.Core.Path.{_≡_, refl, sym, ap, _∙_}
 use mathlib.Core.Bool.{Bool, true, false, cond}
 use mathlib.Core.List.{List, [], _∷_}
-use mathlib.Core.Logic.{_⊎_, inl, inr, ⊎-elim}
 use native.Mathlib.Omega.{arith}
-use lib.Dec.{ltb, eqb}
-use lib.ListN.{length, getD, drop, length-drop}
+use lib.Dec.{ltb}
+use lib.ListN.{length, drop, length-drop}
 use Rattle.std.specs.declared.option.Option.{Option}
 use Rattle.std.specs.declared.option.Option.the-variants.{Some, None}
 use Rattle.std.specs.declared.result.Result.{Result}
 use Rattle.std.specs.declared.result.Result.the-variants.{Ok, Err}
-use Rattle.std.proofs.shelf.Lists.{drop-drop, drop-more}
+use Rattle.std.proofs.shelf.Lists.{drop-drop}
 use Rattle.std.proofs.shelf.Ways.{tells}
-use Rattle.std.proofs.shelf.Tests.{cond-true, cond-false, cases-bool}
 use Rattle.schedule.specs.declared.order.Order.{Order}
 use Rattle.schedule.specs.declared.number.Number.{Number}
 use Rattle.schedule.specs.declared.reader.Placed.{Placed}
 use Rattle.schedule.specs.declared.fault.NumberFault.{NumberFault}
 use Rattle.schedule.specs.declared.fault.ScheduleFault.{ScheduleFault}
-use Rattle.schedule.specs.Numbers.{number-from, two-groups}
+use Rattle.schedule.specs.Numbers.{number-from}
 use Rattle.schedule.specs.Orders.{order-of}
 use Rattle.schedule.specs.Reading.{and-then, with-count, in-schedule, known, order-from, orders-from, preceded}
 

@@ -1,16 +1,16 @@
 -- What the reader has found out on its way through a file.
 use Prim.Native.Nat.{ℕ, _+_, _<_, _≤_}
-use mathlib.Core.Path.{_≡_, refl, sym, ap, subst, _∙_}
-use mathlib.Core.Bool.{true, false, cond}
+use mathlib.Core.Path.{_≡_, refl, sym, ap, _∙_}
+use mathlib.Core.Bool.{true, cond}
 use mathlib.Core.List.{List, [], _∷_, _++_, append-assoc}
 use native.Mathlib.Omega.{arith}
 use native.Mathlib.Nat.{zero-add, add-zero}
-use lib.Dec.{ltb, leb}
+use lib.Dec.{leb}
 use lib.ListN.{length, getD, take, drop, set, length-drop}
 use Rattle.std.specs.declared.result.Result.{Result}
 use Rattle.std.specs.declared.result.Result.the-variants.{Ok, Err}
 use Rattle.std.proofs.shelf.Lists.{drop-all, drop-drop, drop-more, set-at, length-take-le, take-more, take-all}
-use Rattle.std.proofs.shelf.Tests.{cond-true, cond-false, le-leb, lt-leb, leb-true, cond-both, cases-bool}
+use Rattle.std.proofs.shelf.Tests.{cond-true, le-leb, cond-both}
 use Rattle.schedule.specs.declared.order.Order.{Order}
 use Rattle.schedule.specs.declared.number.Number.{Number}
 use Rattle.schedule.specs.declared.reader.Heading.{Heading}
@@ -18,11 +18,10 @@ use Rattle.schedule.specs.declared.reader.Placed.{Placed}
 use Rattle.schedule.specs.declared.fault.NumberFault.{NumberFault}
 use Rattle.schedule.specs.declared.fault.ScheduleFault.{ScheduleFault}
 use Rattle.schedule.specs.declared.fault.PlayFault.{PlayFault}
-use Rattle.schedule.specs.declared.fault.PlayFault.the-variants.{Schedule}
 use Rattle.schedule.specs.Limits.{file-limit, arm-count}
 use Rattle.schedule.specs.Numbers.{number-from}
-use Rattle.schedule.specs.Reading.{Contents, and-then, in-play, with-count, in-schedule, arms-from, order-from, orders-from, preceded, contents-from, says, heading, heading-of, read-answer, read-memory}
-use Rattle.schedule.proofs.Steps.{Ends, number-ends, step-at, orders-fault, orders-end, span}
+use Rattle.schedule.specs.Reading.{Contents, and-then, in-play, with-count, in-schedule, arms-from, order-from, orders-from, preceded, contents-from, order-count, says, heading, heading-of, read-answer, read-memory}
+use Rattle.schedule.proofs.Steps.{number-ends, step-at, orders-fault, orders-end}
 use Rattle.schedule.proofs.Written.{no-order}
 use Rattle.schedule.specs.declared.fault.ScheduleFault.the-variants.{ArmCount}
 
@@ -31,64 +30,70 @@ abbrev pub tally : ℕ → Result (List Order) ScheduleFault → Result ℕ Sche
 tally n (Ok os) = Ok (n + length os)
 tally n (Err f) = Err f
 
-abbrev pub headed : Number → Result ℕ ScheduleFault → Result Heading PlayFault
-headed n (Ok k) = Ok (record { arms = n .value; orders = k })
-headed n (Err f) = Err (Schedule f)
-
 tally-preceded : (n : ℕ) (o : Order) (r : Result (List Order) ScheduleFault) → tally n (preceded o r) ≡ tally (n + 1) r
 tally-preceded n o (Ok os) = let e : n + length (o ∷ os) ≡ n + 1 + length os = omega arith in ap Ok e
 tally-preceded n o (Err f) = refl
 
 -- the first number
-pub arms-read : (file : List ℕ) (n : Number) → arms-from file ≡ Ok n → number-from 0 file ≡ Ok n
-arms-read file n e = go (number-from 0 file) e
-  where
-    pick : (m : Number) → cond (arm-count (m .value)) (Ok m) (Err ArmCount) ≡ Ok n → m ≡ n
-    pick m h = cond-both (arm-count (m .value)) _ _ (λ r. r ≡ Ok n → m ≡ n) (λ b k. cc) (λ b k. absurd (grind arith)) h
+record First (file : List ℕ) (n : Number) : Type 0 where
+  reads : number-from 0 file ≡ Ok n
+  counts : arm-count (n .value) ≡ true
 
-    go : (r : Result Number NumberFault) → and-then (in-schedule (with-count 0 r)) (λ m. cond (arm-count (m .value)) (Ok m) (Err ArmCount)) ≡ Ok n → r ≡ Ok n
-    go (Ok m) h = ap Ok (pick m h)
-    go (Err f) h = absurd (grind arith)
+the-first : (file : List ℕ) (n : Number) → arms-from file ≡ Ok n → First file n
+the-first file n e = go (number-from 0 file) refl e
+  where
+    pick : (m : Number) → number-from 0 file ≡ Ok m → cond (arm-count (m .value)) (Ok m) (Err ArmCount) ≡ Ok n → First file n
+    pick m r h =
+        cond-both (arm-count (m .value)) (Ok m) (Err ArmCount) (λ x. x ≡ Ok n → First file n)
+        (λ b k. let i : m ≡ n = cc in record { reads = r ∙ ap Ok i; counts = ap (λ x. arm-count (x .value)) (sym i) ∙ b })
+        (λ b k. absurd (grind arith))
+        h
+
+    go : (r : Result Number NumberFault) → number-from 0 file ≡ r
+        → and-then (in-schedule (with-count 0 r)) (λ m. cond (arm-count (m .value)) (Ok m) (Err ArmCount)) ≡ Ok n → First file n
+    go (Ok m) r h = pick m r h
+    go (Err f) r h = absurd (grind arith)
+
+pub arms-read : (file : List ℕ) (n : Number) → arms-from file ≡ Ok n → number-from 0 file ≡ Ok n
+arms-read file n e = the-first file n e .reads
+
+pub arms-counted : (file : List ℕ) (n : Number) → arms-from file ≡ Ok n → arm-count (n .value) ≡ true
+arms-counted file n e = the-first file n e .counts
 
 pub arms-within : (file : List ℕ) (n : Number) → arms-from file ≡ Ok n → n .next ≤ length file
 arms-within file n e = let h = number-ends 0 file n (arms-read file n e) in omega (arith, h .next-is, h .within)
 
--- what check answers once the first number is read
-module _ (file : List ℕ) (n : Number) (short : length file ≤ file-limit) (first : arms-from file ≡ Ok n) where
-  pub says-past : says file ≡ in-play (contents-from n file)
-  says-past =
-      cond-true (leb (length file) file-limit) _ _ (le-leb (length file) file-limit short)
-      ∙ ap (λ r. in-play (and-then r (λ m. contents-from m file))) first
+-- what a file says once its first number is read
+pub says-past : (file : List ℕ) (n : Number) → length file ≤ file-limit → arms-from file ≡ Ok n → says file ≡ in-play (contents-from n file)
+says-past file n short first =
+    cond-true (leb (length file) file-limit) _ _ (le-leb (length file) file-limit short)
+    ∙ ap (λ r. in-play (and-then r (λ m. contents-from m file))) first
 
-  pub heading-past : heading-of (says file) ≡ headed n (tally 0 (orders-from (n .next) 1 (drop (n .next) file)))
-  heading-past = ap heading-of says-past ∙ go (orders-from (n .next) 1 (drop (n .next) file))
-    where
-      go : (r : Result (List Order) ScheduleFault)
-          → heading-of (in-play (and-then r (λ os. Ok (record { arms = n .value; orders = os })))) ≡ headed n (tally 0 r)
-      go (Ok os) = ap (λ k. Ok (record { arms = n .value; orders = k })) (sym (zero-add (length os)))
-      go (Err f) = refl
+count-tally : (r : Result (List Order) ScheduleFault) → order-count r ≡ tally 0 r
+count-tally (Ok os) = ap Ok (sym (zero-add (length os)))
+count-tally (Err f) = refl
 
+module _ (file : List ℕ) (from at count : ℕ) where
   -- after the last order
-  pub heading-last : (at count : ℕ) → length file ≤ at
-      → tally count (orders-from at (count + 1) (drop at file)) ≡ tally 0 (orders-from (n .next) 1 (drop (n .next) file))
-      → heading-of (says file) ≡ Ok (record { arms = n .value; orders = count })
-  heading-last at count l inv =
-      heading-past ∙ ap (headed n) (sym inv)
-      ∙ ap (λ xs. headed n (tally count (orders-from at (count + 1) xs))) (drop-all at file l)
-      ∙ ap (λ r. headed n (tally count r)) (orders-end at (count + 1))
-      ∙ ap (λ k. Ok (record { arms = n .value; orders = k })) (add-zero count)
+  pub count-last : length file ≤ at
+      → tally count (orders-from at (count + 1) (drop at file)) ≡ tally 0 (orders-from from 1 (drop from file))
+      → order-count (orders-from from 1 (drop from file)) ≡ Ok count
+  count-last l inv =
+      count-tally (orders-from from 1 (drop from file)) ∙ sym inv
+      ∙ ap (λ xs. tally count (orders-from at (count + 1) xs)) (drop-all at file l)
+      ∙ ap (tally count) (orders-end at (count + 1))
+      ∙ ap Ok (add-zero count)
 
   -- at a faulty order
-  pub heading-fault : (at count : ℕ) (f : ScheduleFault) → at < length file
-      → tally count (orders-from at (count + 1) (drop at file)) ≡ tally 0 (orders-from (n .next) 1 (drop (n .next) file))
+  pub count-fault : (f : ScheduleFault) → at < length file
+      → tally count (orders-from at (count + 1) (drop at file)) ≡ tally 0 (orders-from from 1 (drop from file))
       → order-from at (count + 1) (drop at file) ≡ Err f
-      → heading-of (says file) ≡ Err (Schedule f)
-  heading-fault at count f l inv e =
-      heading-past ∙ ap (headed n) (sym inv)
-      ∙ ap (λ r. headed n (tally count r)) (orders-fault at (count + 1) (drop at file) f (some-left file at l) e)
-    where
-      some-left : (xs : List ℕ) (i : ℕ) → i < length xs → 0 < length (drop i xs)
-      some-left xs i h = let k = length-drop i xs in omega arith
+      → order-count (orders-from from 1 (drop from file)) ≡ Err f
+  count-fault f l inv e =
+      let k = length-drop at file in
+      let some : 0 < length (drop at file) = omega arith in
+      count-tally (orders-from from 1 (drop from file)) ∙ sym inv
+      ∙ ap (tally count) (orders-fault at (count + 1) (drop at file) f some e)
 
 -- one more order counted
 pub tally-step : (file : List ℕ) (at count : ℕ) (p : Placed) → order-from at (count + 1) (drop at file) ≡ Ok p
@@ -127,7 +132,7 @@ no-fault place count (b ∷ bytes) os f e l h =
     let k = orders-fault place count (b ∷ bytes) f (omega arith) h in
     let z : _≡_ {A = ℕ} 0 1 = cc in omega arith
 
-unpreceded : (o : Order) (r : Result (List Order) ScheduleFault) (os : List Order) → preceded o r ≡ Ok os → (r ≡ Ok (drop 1 os)) × (os ≡ o ∷ drop 1 os)
+pub unpreceded : (o : Order) (r : Result (List Order) ScheduleFault) (os : List Order) → preceded o r ≡ Ok os → (r ≡ Ok (drop 1 os)) × (os ≡ o ∷ drop 1 os)
 unpreceded o (Ok xs) os e =
     let i : (o ∷ xs) ≡ os = cc in
     let d : xs ≡ drop 1 os = ap (drop 1) i in

@@ -1,8 +1,6 @@
 -- A fault's number, place, order and layer.
 use Prim.Native.Nat.{ℕ}
-use Rattle.schedule.specs.declared.fault.NumberFault.{NumberFault}
 use Rattle.schedule.specs.declared.fault.NumberFault.the-variants.{Cut, Padded, Large}
-use Rattle.schedule.specs.declared.fault.ScheduleFault.{ScheduleFault}
 use Rattle.schedule.specs.declared.fault.ScheduleFault.the-variants.{Number, ArmCount, UnknownOrder}
 use Rattle.schedule.specs.declared.fault.PlayFault.{PlayFault}
 use Rattle.schedule.specs.declared.fault.PlayFault.the-variants.{LongFile, ShortMemory, Schedule, Full}

@@ -5,3 +5,4 @@ pub mod Numbers
 pub mod Memory
 pub mod Reading
 pub mod Writing
+pub mod Laws

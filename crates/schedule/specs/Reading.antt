@@ -28,6 +28,9 @@ pub record Contents : Type 0 where
   pub arms : ℕ
   pub orders : List Order
 
+abbrev pub contents : ℕ → List Order → Contents
+contents arms orders = record { arms = arms; orders = orders }
+
 -- the first fault is the answer
 abbrev pub and-then : {X Y E : Type 0} → Result X E → (X → Result Y E) → Result Y E
 and-then (Ok x) f = f x
@@ -76,9 +79,13 @@ orders-from place count (low ∷ high ∷ rest) =
     let two = orders-from (place + 2) (count + 1) rest in
     and-then (order-from place count (low ∷ high ∷ rest)) (λ p. preceded (p .order) (cond (ltb low 128) one two))
 
+abbrev pub order-count : Result (List Order) ScheduleFault → Result ℕ ScheduleFault
+order-count (Ok os) = Ok (length os)
+order-count (Err fault) = Err fault
+
 abbrev pub contents-from : Number → List ℕ → Result Contents ScheduleFault
 contents-from n bytes =
-    and-then (orders-from (n .next) 1 (drop (n .next) bytes)) (λ os. Ok (record { arms = n .value; orders = os }))
+    and-then (orders-from (n .next) 1 (drop (n .next) bytes)) (λ os. Ok (contents (n .value) os))
 
 abbrev pub says : List ℕ → Result Contents PlayFault
 says bytes =

@@ -32,13 +32,6 @@ abbrev pub small-orders : List Order → Bool
 small-orders [] = true
 small-orders (o ∷ os) = leb (order-number o) largest-number && small-orders os
 
--- the length of the file, before it is held to a limit
-abbrev pub measured : ℕ → List Order → Result ℕ WriteRefusal
-measured arms orders =
-    cond (arm-count arms)
-    (cond (small-orders orders) (Ok (length (file-bytes arms orders))) (Err Large))
-    (Err ArmCount)
-
 -- the file, or the refusal that comes first
 abbrev pub file-of : ℕ → List Order → Result (List ℕ) WriteRefusal
 file-of arms orders =
@@ -47,6 +40,10 @@ file-of arms orders =
     (cond (leb (length (file-bytes arms orders)) file-limit) (Ok (file-bytes arms orders)) (Err LongFile))
     (Err Large))
     (Err ArmCount)
+
+abbrev pub length-of : Result (List ℕ) WriteRefusal → Result ℕ WriteRefusal
+length-of (Ok file) = Ok (length file)
+length-of (Err refusal) = Err refusal
 
 abbrev pub length-or-full : Result (List ℕ) WriteRefusal → ℕ → Result ℕ WriteRefusal
 length-or-full (Ok file) room = cond (leb (length file) room) (Ok (length file)) (Err Full)

@@ -64,6 +64,7 @@ pub impl From<ScheduleFault> for PlayFault as PlayFromSchedule {
 }
 
 impl PlayFault {
+    // The number that a fault is known by.
     pub fn number(self) -> u8
         ensures { λ r. ⌜ r ≡ fault-number self ⌝ }
     {
@@ -120,6 +121,7 @@ impl PlayFault {
         }
     }
 
+    // The layer that found the fault.
     pub fn layer(self) -> Layer
         ensures { λ r. ⌜ r ≡ fault-layer self ⌝ }
     {

@@ -1,7 +1,10 @@
 ghost use mathlib.Core.Path.{_≡_};
+ghost use Prim.Native.Nat.{_≤_};
+ghost use Rattle.std.specs.declared.result.Result.the-variants.{Ok};
 ghost use lib.ListN.{length, drop};
+ghost use Rattle.schedule.specs.Laws.{Was-read};
 ghost use Rattle.schedule.specs.Numbers.{number-from};
-ghost use Rattle.schedule.specs.Reading.{with-count, arms-from, order-from, says, heading-of, read-answer, read-memory};
+ghost use Rattle.schedule.specs.Reading.{with-count, arms-from, order-from, orders-from, order-count, says, heading-of, read-answer, read-memory};
 use crate::fault::Counted;
 use crate::fault::PlayFault;
 use crate::fault::PlayFromSchedule;
@@ -68,6 +71,20 @@ pub fn order_at(file: &[u8], at: usize, count: usize) -> Result<Placed, Schedule
     }
 }
 
+// How many orders stand from a place to the end of a file.
+fn count_orders(file: &[u8], from: usize) -> Result<usize, ScheduleFault>
+    ensures { λ r. ⌜ r ≡ order-count (orders-from from 1 (drop from (now (file .entry)))) ⌝ }
+{
+    let mut at = from;
+    let mut count = 0;
+    while at < file.len() {
+        let placed = order_at(file, at, count + 1)?;
+        at = placed.next;
+        count += 1;
+    }
+    Ok(count)
+}
+
 // Goes through a whole file: its heading, or its first fault.
 pub fn check(file: &[u8]) -> Result<Heading, PlayFault>
     ensures { λ r. ⌜ r ≡ heading-of (says (now (file .entry))) ⌝ }
@@ -76,28 +93,21 @@ pub fn check(file: &[u8]) -> Result<Heading, PlayFault>
         return Err(PlayFault::LongFile);
     }
     let first = arms_of(file)?;
-    let mut at = first.next;
-    let mut count = 0;
-    while at < file.len() {
-        let placed = order_at(file, at, count + 1)?;
-        at = placed.next;
-        count += 1;
-    }
+    let orders = count_orders(file, first.next)?;
     Ok(Heading {
         arms: first.value,
-        orders: count,
+        orders,
     })
 }
 
-// Puts the orders of a file at the start of the memory. A refusal leaves the memory as it was.
-pub fn read(file: &[u8], orders: &mut [Order]) -> Result<Heading, PlayFault>
-    ensures answer { λ r. ⌜ r ≡ read-answer (says (now (file .entry))) (length (now (orders .entry))) ⌝ }
+// Puts the orders of a file that is checked into memory that is long enough.
+fn put_orders(file: &[u8], heading: Heading, orders: &mut [Order]) -> Result<Heading, PlayFault>
+    requires checked { ⌜ Ok heading ≡ heading-of (says (now file)) ⌝ }
+    requires room { ⌜ heading .orders ≤ length (now orders) ⌝ }
+    ensures answer { λ r. ⌜ r ≡ Ok heading ⌝ }
     ensures memory { λ _. ⌜ now (orders .exit) ≡ read-memory (says (now (file .entry))) (now (orders .entry)) ⌝ }
+    ensures inverse { λ r. ⌜ Was-read r (now (file .entry)) (now (orders .exit)) ⌝ }
 {
-    let heading = check(file)?;
-    if heading.orders > orders.len() {
-        return Err(PlayFault::Full);
-    }
     let mut at = arms_of(file)?.next;
     for i in 0..heading.orders {
         let placed = order_at(file, at, i + 1)?;
@@ -105,4 +115,17 @@ pub fn read(file: &[u8], orders: &mut [Order]) -> Result<Heading, PlayFault>
         at = placed.next;
     }
     Ok(heading)
+}
+
+// Puts the orders of a file at the start of the memory. A refusal leaves the memory as it was.
+pub fn read(file: &[u8], orders: &mut [Order]) -> Result<Heading, PlayFault>
+    ensures answer { λ r. ⌜ r ≡ read-answer (says (now (file .entry))) (length (now (orders .entry))) ⌝ }
+    ensures memory { λ _. ⌜ now (orders .exit) ≡ read-memory (says (now (file .entry))) (now (orders .entry)) ⌝ }
+    ensures inverse { λ r. ⌜ Was-read r (now (file .entry)) (now (orders .exit)) ⌝ }
+{
+    let heading = check(file)?;
+    if heading.orders > orders.len() {
+        return Err(PlayFault::Full);
+    }
+    put_orders(file, heading, orders)
 }

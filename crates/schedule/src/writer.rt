@@ -1,15 +1,19 @@
 ghost use mathlib.Core.Path.{_≡_};
-ghost use mathlib.Core.Bool.{true};
 ghost use mathlib.Core.List.{_++_};
 ghost use Prim.Native.Nat.{_+_, _≤_};
 ghost use lib.ListN.{length, take, drop};
-ghost use Rattle.schedule.specs.Limits.{largest-number};
-ghost use Rattle.schedule.specs.Numbers.{groups};
-ghost use Rattle.schedule.specs.Writing.{refusal-number, small-orders, file-bytes, measured, write-answer, write-memory};
+ghost use Rattle.std.specs.Orderings.{Decides};
+ghost use Rattle.std.specs.Results.{isOk};
+ghost use Rattle.std.specs.declared.result.Result.the-variants.{Ok};
+ghost use Rattle.schedule.specs.Laws.{Inverse, Lawful, Was-written};
+ghost use Rattle.schedule.specs.Numbers.{group-list};
+ghost use Rattle.schedule.specs.Reading.{contents};
+ghost use Rattle.schedule.specs.Writing.{refusal-number, file-bytes, file-of, length-of, write-answer, write-memory};
 use crate::limit::ARM_LIMIT;
 use crate::limit::FILE_LIMIT;
 use crate::limit::LARGEST_NUMBER;
-use crate::number::GROUP;
+use crate::number::Groups;
+use crate::number::groups_of;
 use crate::order::Order;
 
 // Why a list of orders is not written.
@@ -22,6 +26,7 @@ pub enum WriteRefusal {
 }
 
 impl WriteRefusal {
+    // The number that a refusal is known by.
     pub fn number(self) -> u8
         ensures { λ r. ⌜ r ≡ refusal-number self ⌝ }
     {
@@ -34,59 +39,67 @@ impl WriteRefusal {
     }
 }
 
-// How many groups a number has.
-fn width(number: u16) -> usize
-    ensures { λ r. ⌜ r ≡ length (groups number) ⌝ }
+// How many bytes a number has.
+fn width(bytes: Groups) -> usize
+    ensures { λ r. ⌜ r ≡ length (group-list bytes) ⌝ }
 {
-    if number < GROUP { 1 } else { 2 }
+    match bytes {
+        Groups::One(_) => 1,
+        Groups::Two(_, _) => 2,
+    }
 }
 
-// Writes a number at a place, and answers the place after it.
-fn put(out: &mut [u8], at: usize, number: u16) -> usize
-    requires room { ⌜ at + length (groups number) ≤ length (now out) ⌝ }
-    requires small { ⌜ number ≤ largest-number ⌝ }
-    ensures end { λ r. ⌜ r ≡ at + length (groups number) ⌝ }
-    ensures after { λ _. ⌜ now (out .exit) ≡ take at (now (out .entry)) ++ (groups number ++ drop (at + length (groups number)) (now (out .entry))) ⌝ }
+// Writes a number's bytes at a place, and answers the place after them.
+fn put(out: &mut [u8], at: usize, bytes: Groups) -> usize
+    requires { ⌜ at + length (group-list bytes) ≤ length (now out) ⌝ }
+    ensures end { λ r. ⌜ r ≡ at + length (group-list bytes) ⌝ }
+    ensures after { λ _. ⌜ now (out .exit) ≡ take at (now (out .entry)) ++ (group-list bytes ++ drop (at + length (group-list bytes)) (now (out .entry))) ⌝ }
 {
-    if number < GROUP {
-        out[at] = number as u8;
-        at + 1
-    } else {
-        out[at] = (number % GROUP + GROUP) as u8;
-        out[at + 1] = (number / GROUP) as u8;
-        at + 2
+    match bytes {
+        Groups::One(low) => {
+            out[at] = low;
+            at + 1
+        }
+        Groups::Two(low, high) => {
+            out[at] = low;
+            out[at + 1] = high;
+            at + 2
+        }
     }
 }
 
 // How many bytes the file of a list has.
 fn measure(arms: usize, orders: &[Order]) -> Result<usize, WriteRefusal>
-    ensures { λ r. ⌜ r ≡ measured arms (now (orders .entry)) ⌝ }
+    ensures { λ r. ⌜ r ≡ length-of (file-of arms (now (orders .entry))) ⌝ }
 {
     if arms == 0 || arms > ARM_LIMIT {
         return Err(WriteRefusal::ArmCount);
     }
-    let mut size = width(arms as u16);
+    let mut size = width(groups_of(arms as u16));
     for (i, order) in orders.iter().enumerate() {
         let number = order.number();
         if number > LARGEST_NUMBER {
             return Err(WriteRefusal::Large);
         }
-        size += width(number as u16);
+        size += width(groups_of(number as u16));
+    }
+    if size > FILE_LIMIT {
+        return Err(WriteRefusal::LongFile);
     }
     Ok(size)
 }
 
-// Writes the arm count and the orders at the start of memory that is long enough.
+// Writes the file of a list at the start of memory that is long enough.
 fn fill(arms: usize, orders: &[Order], out: &mut [u8]) -> usize
-    requires few { ⌜ arms ≤ 32 ⌝ }
-    requires small { ⌜ small-orders (now orders) ≡ true ⌝ }
+    requires lawful { ⌜ file-of arms (now orders) ≡ Ok (file-bytes arms (now orders)) ⌝ }
     requires room { ⌜ length (file-bytes arms (now orders)) ≤ length (now out) ⌝ }
     ensures end { λ r. ⌜ r ≡ length (file-bytes arms (now (orders .entry))) ⌝ }
     ensures after { λ _. ⌜ now (out .exit) ≡ file-bytes arms (now (orders .entry)) ++ drop (length (file-bytes arms (now (orders .entry)))) (now (out .entry)) ⌝ }
+    ensures inverse { λ r. ⌜ Was-written (Ok r) (contents arms (now (orders .entry))) (now (out .exit)) ⌝ }
 {
-    let mut at = put(out, 0, arms as u16);
+    let mut at = put(out, 0, groups_of(arms as u16));
     for (i, order) in orders.iter().enumerate() {
-        at = put(out, at, order.number() as u16);
+        at = put(out, at, groups_of(order.number() as u16));
     }
     at
 }
@@ -96,13 +109,26 @@ fn fill(arms: usize, orders: &[Order], out: &mut [u8]) -> usize
 pub fn write(arms: usize, orders: &[Order], out: &mut [u8]) -> Result<usize, WriteRefusal>
     ensures answer { λ r. ⌜ r ≡ write-answer arms (now (orders .entry)) (length (now (out .entry))) ⌝ }
     ensures memory { λ _. ⌜ now (out .exit) ≡ write-memory arms (now (orders .entry)) (now (out .entry)) ⌝ }
+    ensures inverse { λ r. ⌜ Was-written r (contents arms (now (orders .entry))) (now (out .exit)) ⌝ }
 {
     let size = measure(arms, orders)?;
-    if size > FILE_LIMIT {
-        return Err(WriteRefusal::LongFile);
-    }
     if size > out.len() {
         return Err(WriteRefusal::Full);
     }
     Ok(fill(arms, orders, out))
+}
+
+// Whether the writer has a file for a list.
+fn has_file(arms: usize, orders: &[Order]) -> bool
+    ensures { λ r. ⌜ r ≡ isOk (file-of arms (now (orders .entry))) ⌝ }
+{
+    measure(arms, orders).is_ok()
+}
+
+// Whether a list is lawful. Those lists are what the writer writes and the reader reads, and the two are inverse.
+pub fn is_lawful(arms: usize, orders: &[Order]) -> bool
+    ensures answer { λ r. ⌜ Decides r (Lawful (contents arms (now (orders .entry)))) ⌝ }
+    ensures laws { λ _. ⌜ Inverse ⌝ }
+{
+    has_file(arms, orders)
 }

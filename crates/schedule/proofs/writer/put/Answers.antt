@@ -1,12 +1,14 @@
+use mathlib.Core.Path.{ap}
+use Rattle.schedule.specs.Numbers.{group-list}
 use Rattle.schedule.proofs.Written.{put-one, put-two}
 use Rattle.schedule.proofs.writer.put.Needs as need
 
-pub returns-then-number-lt-GROUP : need.returns-then-number-lt-GROUP
-returns-then-number-lt-GROUP c =
-    let p = put-one (c .args .out .now) (c .args .at) (c .args .number) (c .if-number-lt-GROUP .taken) (c .pre .room) in
+pub returns-in-One : need.returns-in-One
+returns-in-One c =
+    let p = put-one (c .args .out .now) (c .args .at) (c .in-One .low) (group-list (c .args .bytes)) (ap group-list (c .in-One .is)) (c .pre) in
     record { end = p .end-is; after = p .holds }
 
-pub returns-else-number-lt-GROUP : need.returns-else-number-lt-GROUP
-returns-else-number-lt-GROUP c =
-    let p = put-two (c .args .out .now) (c .args .at) (c .args .number) (c .if-number-lt-GROUP .left) (c .pre .room) in
+pub returns-in-Two : need.returns-in-Two
+returns-in-Two c =
+    let p = put-two (c .args .out .now) (c .args .at) (c .in-Two .low) (c .in-Two .high) (group-list (c .args .bytes)) (ap group-list (c .in-Two .is)) (c .pre) in
     record { end = p .end-is; after = p .holds }

@@ -5,7 +5,7 @@ use lib.ListN.{take, drop}
 use Rattle.std.specs.declared.result.Result.the-variants.{Ok}
 use Rattle.schedule.specs.Reading.{orders-from, says}
 use Rattle.schedule.proofs.Told.{told}
-use Rattle.schedule.proofs.reader.read.Given as given
+use Rattle.schedule.proofs.reader.put_orders.Given as given
 
 -- the orders put so far are the file's first, the rest of the memory is as it was, and the rest of the file says the rest
 abbrev pub Inv-loop-i : given.InvT-loop-i

@@ -3,15 +3,14 @@ use mathlib.Core.Path.{_≡_}
 use lib.ListN.{length, drop}
 use Rattle.schedule.specs.Reading.{orders-from}
 use Rattle.schedule.proofs.Told.{tally}
-use Rattle.schedule.proofs.reader.check.Given as given
+use Rattle.schedule.proofs.reader.count_orders.Given as given
 
 -- the orders so far and those that are left make up the file's
 abbrev pub Inv-loop-at : given.InvT-loop-at
 Inv-loop-at l =
-    (l .at ≤ length (l .file))
-    × (l .count ≤ l .at)
+    (l .from + l .count ≤ l .at)
     × (tally (l .count) (orders-from (l .at) (l .count + 1) (drop (l .at) (l .file)))
-    ≡ tally 0 (orders-from (l .entry .at) 1 (drop (l .entry .at) (l .file))))
+    ≡ tally 0 (orders-from (l .from) 1 (drop (l .from) (l .file))))
 
 abbrev pub μ-loop-at : given.MeasureT-loop-at
 μ-loop-at l = length (l .file) - l .at
