@@ -1,3 +1,4 @@
 pub mod Rooms
 pub mod Tables
 pub mod Bounds
+pub mod Spared

@@ -9,3 +9,4 @@ pub mod Calls
 pub mod Whole
 pub mod Alike
 pub mod Bounded
+pub mod Accesses

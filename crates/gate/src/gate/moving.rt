@@ -2,6 +2,7 @@ ghost use mathlib.Core.Path.{_≡_};
 ghost use Prim.Native.Nat.{_≤_};
 ghost use Rattle.std.specs.declared.option.Option.the-variants.{None};
 ghost use Rattle.gate.specs.declared.position.Phase.the-variants as P;
+ghost use Rattle.gate.specs.Accesses.{One-access};
 ghost use Rattle.gate.specs.Calls.{begin, step, refusal-of, after, done, answered, step-answer, arm-after};
 ghost use Rattle.gate.specs.Positions.{phase-of};
 ghost use Rattle.gate.specs.Whole.{whole};
@@ -37,6 +38,14 @@ impl<B: Bank> Gate<B> {
 
     // Makes the one access of an arm that is neither idle nor inside.
     pub fn step(&mut self, arm: usize) -> Result<Phase, Refusal>
+        ensures answer { λ r. ⌜ r ≡ step-answer (whole highest values (now (self .entry))) arm ⌝ }
+        ensures after { λ _. ⌜ whole highest values (now (self .exit)) ≡ after (whole highest values (now (self .entry))) (step arm) ⌝ }
+        ensures one { λ _. ⌜ One-access (whole highest values (now (self .entry))) arm (values (now (self .exit) .bank)) ⌝ }
+    {
+        self.move_on(arm)
+    }
+
+    fn move_on(&mut self, arm: usize) -> Result<Phase, Refusal>
         ensures answer { λ r. ⌜ r ≡ step-answer (whole highest values (now (self .entry))) arm ⌝ }
         ensures after { λ _. ⌜ whole highest values (now (self .exit)) ≡ after (whole highest values (now (self .entry))) (step arm) ⌝ }
     {
