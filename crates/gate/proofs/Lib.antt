@@ -1,4 +1,0 @@
-pub mod Rooms
-pub mod Tables
-pub mod Bounds
-pub mod Spared

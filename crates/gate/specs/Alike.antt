@@ -2,9 +2,9 @@
 use Prim.Native.Nat.{ℕ, _+_, _*_, _≤_, _<_}
 use mathlib.Core.Path.{_≡_}
 use lib.ListN.{getD}
-use Rattle.gate.specs.Making.{room}
-use Rattle.gate.specs.Positions.{letter-of}
-use Rattle.gate.specs.States.{State, phase-at}
+use Rattle.door.specs.Making.{room}
+use Rattle.door.specs.Positions.{letter-of}
+use Rattle.door.specs.States.{State, phase-at}
 
 -- as many arms, the same values in their registers (none counts with 0 arms), the same phase letters
 pub record Alike (s t : State) : Type 0 where

@@ -1,12 +1,3 @@
-pub mod Limits
-pub mod Positions
-pub mod Arms
-pub mod Refusals
-pub mod Making
-pub mod Tallies
-pub mod States
-pub mod Calls
-pub mod Whole
+pub mod Answers
 pub mod Alike
-pub mod Bounded
-pub mod Accesses
+pub mod Whole

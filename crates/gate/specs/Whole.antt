@@ -1,7 +1,7 @@
 -- The state that a gate in hand has.
 use Prim.Native.Nat.{ℕ}
 use mathlib.Core.List.{List}
-use Rattle.gate.specs.States.{State}
+use Rattle.door.specs.States.{State}
 use Rattle.gate.specs.declared.gate.Gate.{Gate}
 
 -- by the highest value of its bank and the values that the bank holds

@@ -7,17 +7,21 @@ mod making;
 mod refusals;
 // Begin and step.
 mod moving;
-// Admit and leave.
+// Admit, confirm and leave.
 mod passing;
 // Look, tally, and what a report wants to know.
 mod watching;
+// Right of way.
+mod way;
+// A gate that carries out a list of calls.
+pub mod carrying;
 // Whether two gates are alike.
 pub mod comparing;
 
-use crate::arm::ARM_LIMIT;
-use crate::arm::Arm;
-use crate::position::Phase;
 use bank::interface::Bank;
+use door::arm::ARM_LIMIT;
+use door::arm::Arm;
+use door::position::Phase;
 
 // Steps up to 32 arms towards a shared section. It owns its bank.
 #[derive(Drop)]

@@ -2,10 +2,10 @@ ghost use mathlib.Core.Path.{_≡_};
 ghost use Prim.Native.Nat.{ℕ, _+_, _*_, _≤_};
 ghost use lib.Dec.{leb};
 ghost use lib.ListN.{length};
-ghost use Rattle.gate.specs.Limits.{arm-limit};
-ghost use Rattle.gate.specs.Making.{arms-for, cleared, room};
-use crate::arm::ARM_LIMIT;
+ghost use Rattle.door.specs.Limits.{arm-limit};
+ghost use Rattle.door.specs.Making.{arms-for, cleared, room};
 use bank::interface::Bank;
+use door::arm::ARM_LIMIT;
 
 // How many registers n arms take.
 pub(crate) fn registers(n: usize) -> usize

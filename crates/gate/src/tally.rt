@@ -2,11 +2,11 @@ ghost use mathlib.Core.Path.{_≡_};
 ghost use mathlib.Core.List.{map};
 ghost use Prim.Native.Nat.{_<_};
 ghost use lib.ListN.{length};
-ghost use Rattle.gate.specs.Limits.{arm-limit};
-ghost use Rattle.gate.specs.Tallies.{past-doorway, counted, each, is-idle, row-started, row-cleared};
-use crate::arm::ARM_LIMIT;
-use crate::arm::Arm;
-use crate::position::Phase;
+ghost use Rattle.door.specs.Limits.{arm-limit};
+ghost use Rattle.door.specs.Tallies.{past-doorway, counted, each, is-idle, row-started, row-cleared};
+use door::arm::ARM_LIMIT;
+use door::arm::Arm;
+use door::position::Phase;
 
 // Whether an arm in this phase counts the entries of others: in W, F or X.
 fn counts(phase: Phase) -> bool

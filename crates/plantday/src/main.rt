@@ -9,8 +9,8 @@ use crate::record::Record;
 use bank::byte_bank::ByteBank;
 use bank::byte_bank::ByteRegisters;
 use bank::interface::Bank;
+use door::position::Phase;
 use gate::gate::Gate;
-use gate::position::Phase;
 use std::error::AnyError;
 
 const SEED: u64 = 20_261_117;
@@ -41,7 +41,10 @@ fn pick(dice: &mut Dice) -> usize {
 fn deliver<B: Bank>(gate: &mut Gate<B>, arm: usize, k: usize, record: &mut Record) {
     match gate.admit(arm) {
         Ok(pass) => {
-            record.deliver(k);
+            let (pass, known) = gate.confirm(pass);
+            if known {
+                record.deliver(k);
+            }
             match gate.leave(pass) {
                 Ok(_) => record.moved(gate, k),
                 Err(_) => unreachable(),

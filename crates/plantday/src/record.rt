@@ -1,6 +1,6 @@
 use bank::interface::Bank;
+use door::position::Phase;
 use gate::gate::Gate;
-use gate::position::Phase;
 
 // How many arms the plant has.
 pub const ARMS: usize = 6;

@@ -9,10 +9,11 @@ use lib.ListN.{length}
 use Rattle.std.specs.declared.result.Result.{Result}
 use Rattle.std.specs.declared.result.Result.the-variants.{Ok, Err}
 use Rattle.std.proofs.shelf.Tests.{cond-true, leb-true, le-leb, and-from}
-use Rattle.gate.specs.Calls.{begin, step, admit, leave, refusal-of, after, unless}
-use Rattle.gate.specs.States.{State, made}
-use Rattle.gate.specs.Bounded.{Bounded}
-use Rattle.gate.proofs.Bounds.{after-bounded, made-bounded, unless-both}
+use Rattle.door.specs.Calls.{refusal-of, after, unless}
+use Rattle.door.specs.declared.call.Call.the-variants.{Begin as begin, Step as step, Admit as admit, Leave as leave}
+use Rattle.door.specs.States.{State, made}
+use Rattle.door.specs.Bounded.{Bounded}
+use Rattle.door.proofs.Bounds.{after-bounded, made-bounded, unless-both}
 use Rattle.schedule.specs.Limits.{file-limit}
 use Rattle.schedule.specs.Reading.{Contents, says, heading-of}
 use Rattle.schedule.specs.declared.fault.PlayFault.{PlayFault}

@@ -12,10 +12,10 @@ use Rattle.std.specs.declared.option.Option.{Option}
 use Rattle.std.specs.declared.option.Option.the-variants.{Some, None}
 use Rattle.std.proofs.shelf.Tests.{cond-both}
 use Rattle.std.proofs.shelf.Ways.{tells}
-use Rattle.gate.specs.Limits.{arm-limit, visit-limit, tally-limit}
-use Rattle.gate.specs.Positions.{group, side-of}
-use Rattle.gate.specs.States.{State, arm-at, bit-of}
-use Rattle.gate.specs.Bounded.{Bounded, Bounded-arm}
+use Rattle.door.specs.Limits.{arm-limit, visit-limit, tally-limit}
+use Rattle.door.specs.Positions.{group, side-of}
+use Rattle.door.specs.States.{State, arm-at, bit-of}
+use Rattle.door.specs.Bounded.{Bounded, Bounded-arm}
 use Rattle.play.specs.Limits.{report-room}
 use Rattle.play.specs.Text.{decimal, lines}
 use Rattle.play.specs.Reports.{side-text, largest-count, arm-line, first-line, report-text}

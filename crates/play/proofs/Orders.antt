@@ -6,8 +6,8 @@ use native.Mathlib.Omega.{arith}
 use lib.ListN.{length, drop}
 use Rattle.std.specs.declared.result.Result.{Result}
 use Rattle.std.specs.declared.result.Result.the-variants.{Ok, Err}
-use Rattle.gate.specs.Calls.{unless}
-use Rattle.gate.specs.States.{State}
+use Rattle.door.specs.Calls.{unless}
+use Rattle.door.specs.States.{State}
 use Rattle.schedule.specs.Reading.{Contents, says, heading-of}
 use Rattle.schedule.specs.declared.fault.PlayFault.{PlayFault}
 use Rattle.schedule.specs.declared.order.Order.{Order}

@@ -8,9 +8,10 @@ use Rattle.std.specs.declared.option.Option.{Option}
 use Rattle.std.specs.declared.option.Option.the-variants.{Some, None}
 use Rattle.std.specs.declared.result.Result.{Result}
 use Rattle.std.specs.declared.result.Result.the-variants.{Ok, Err}
-use Rattle.gate.specs.Calls.{begin, step, admit, leave, refusal-of, after, unless}
-use Rattle.gate.specs.States.{State, made}
-use Rattle.gate.specs.declared.refusal.Refusal.{Refusal}
+use Rattle.door.specs.Calls.{refusal-of, after, unless}
+use Rattle.door.specs.States.{State, made}
+use Rattle.door.specs.declared.call.Call.the-variants.{Begin as begin, Step as step, Admit as admit, Leave as leave}
+use Rattle.door.specs.declared.refusal.Refusal.{Refusal}
 use Rattle.schedule.specs.Limits.{file-limit}
 use Rattle.schedule.specs.Reading.{Contents, says}
 use Rattle.schedule.specs.declared.fault.PlayFault.{PlayFault}

@@ -9,8 +9,8 @@ use Rattle.std.specs.declared.option.Option.{Option}
 use Rattle.std.specs.declared.option.Option.the-variants.{Some, None}
 use Rattle.std.specs.declared.result.Result.{Result}
 use Rattle.std.specs.declared.result.Result.the-variants.{Ok, Err}
-use Rattle.gate.specs.Positions.{letter-of}
-use Rattle.gate.specs.States.{State, arm-at, phase-at, bit-of}
+use Rattle.door.specs.Positions.{letter-of}
+use Rattle.door.specs.States.{State, arm-at, phase-at, bit-of}
 use Rattle.schedule.specs.Faults.{fault-number, fault-place, fault-order, fault-layer}
 use Rattle.schedule.specs.declared.fault.Layer.{Layer}
 use Rattle.schedule.specs.declared.fault.Layer.the-variants as L

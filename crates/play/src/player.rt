@@ -3,7 +3,8 @@ ghost use Prim.Native.Nat.{_≤_};
 ghost use lib.ListN.{length};
 ghost use Rattle.std.specs.declared.result.Result.the-variants.{Ok};
 ghost use Rattle.std.specs.Results.{errPart};
-ghost use Rattle.gate.specs.Calls.{admit, refusal-of, unless};
+ghost use Rattle.door.specs.Calls.{refusal-of, unless};
+ghost use Rattle.door.specs.declared.call.Call.the-variants.{Admit};
 ghost use Rattle.gate.specs.Whole.{whole};
 ghost use Rattle.schedule.specs.Reading.{says, heading-of};
 ghost use Rattle.play.specs.Playing.{order-refusal, obeyed, left-at-once, playable, obeyed-by, refused-by, play-answer, play-regs, play-memory};
@@ -11,9 +12,9 @@ use crate::report::REPORT_ROOM;
 use crate::report::report;
 use crate::service::Service;
 use bank::interface::Bank;
+use door::position::Phase;
+use door::refusal::Refusal;
 use gate::gate::Gate;
-use gate::position::Phase;
-use gate::refusal::Refusal;
 use schedule::fault::PlayFault;
 use schedule::limit::FILE_LIMIT;
 use schedule::order::Order;
@@ -31,7 +32,7 @@ pub struct Played<B> {
 
 // Admits an arm and lets it leave at once; the refusal, if any.
 fn leave_at_once<B: Bank>(gate: &mut Gate<B>, arm: usize) -> Option<Refusal>
-    ensures answer { λ r. ⌜ r ≡ refusal-of (whole highest values (now (gate .entry))) (admit arm) ⌝ }
+    ensures answer { λ r. ⌜ r ≡ refusal-of (whole highest values (now (gate .entry))) (Admit arm) ⌝ }
     ensures after { λ _. ⌜ whole highest values (now (gate .exit)) ≡ left-at-once (whole highest values (now (gate .entry))) arm ⌝ }
 {
     match gate.admit(arm) {

@@ -1,8 +1,8 @@
 ghost use mathlib.Core.Path.{_≡_};
 ghost use Prim.Native.Nat.{_+_, _*_, _<_, _≤_};
 ghost use lib.ListN.{length};
-ghost use Rattle.gate.specs.Calls.{view-of, tally-of};
-ghost use Rattle.gate.specs.States.{arm-at};
+ghost use Rattle.gate.specs.Answers.{view-of, tally-of};
+ghost use Rattle.door.specs.States.{arm-at};
 ghost use Rattle.gate.specs.Whole.{whole};
 ghost use Rattle.play.specs.Paged.{Room, Added, written};
 ghost use Rattle.play.specs.Reports.{side-text, largest-count, arm-line, first-line, report-text, layer-word, fault-text, text-answer, text-memory};

@@ -2,9 +2,11 @@
 use Prim.Native.Nat.{ℕ}
 use mathlib.Core.Bool.{Bool, _&&_}
 use lib.Dec.{leb}
+use Rattle.door.specs.Limits.{arm-limit as gate-arms}
 
+-- a file has at most as many arms as a gate
 abbrev pub arm-limit : ℕ
-arm-limit = 32
+arm-limit = gate-arms
 
 abbrev pub file-limit : ℕ
 file-limit = 60000

@@ -1,5 +1,5 @@
-// A gate has at most this many arms.
-pub const ARM_LIMIT: usize = 32;
+// A file has at most as many arms as a gate.
+pub const ARM_LIMIT: usize = door::arm::ARM_LIMIT;
 
 // A schedule file has at most this many bytes.
 pub const FILE_LIMIT: usize = 60_000;

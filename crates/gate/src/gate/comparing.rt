@@ -3,15 +3,15 @@ ghost use Prim.Native.Nat.{ℕ, _<_, _≤_};
 ghost use lib.Dec.{T};
 ghost use lib.ListN.{getD};
 ghost use Rattle.gate.specs.Alike.{Alike};
-ghost use Rattle.gate.specs.Positions.{phase-of, letter-of};
-ghost use Rattle.gate.specs.Arms.{no-arm};
+ghost use Rattle.door.specs.Positions.{phase-of, letter-of};
+ghost use Rattle.door.specs.Arms.{no-arm};
 ghost use Rattle.gate.specs.Whole.{whole};
-use crate::access::value_at;
-use crate::arm::ARM_LIMIT;
-use crate::arm::Arm;
 use crate::gate::Gate;
 use crate::making::registers;
 use bank::interface::Bank;
+use door::access::value_at;
+use door::arm::ARM_LIMIT;
+use door::arm::Arm;
 
 // Whether the first registers of two banks hold the same values.
 fn same_registers<B: Bank, C: Bank>(a: &B, b: &C, count: usize) -> bool

@@ -1,14 +1,14 @@
 ghost use mathlib.Core.Path.{_≡_};
-ghost use Rattle.gate.specs.States.{made};
+ghost use Rattle.door.specs.States.{made};
 ghost use Rattle.gate.specs.Whole.{whole};
-use crate::arm::ARM_LIMIT;
-use crate::arm::Arm;
 use crate::gate::Gate;
 use crate::making::arm_count;
 use crate::making::clear;
 use crate::making::registers;
-use crate::position::Position;
 use bank::interface::Bank;
+use door::arm::ARM_LIMIT;
+use door::arm::Arm;
+use door::position::Position;
 
 impl<B: Bank> Gate<B> {
     // A gate over a bank, which it owns from then on; with the wanted arm count, or as many as there is room for.

@@ -1,27 +1,26 @@
 ghost use mathlib.Core.Path.{_≡_};
-ghost use Prim.Native.Nat.{_≤_};
-ghost use Rattle.std.specs.declared.option.Option.the-variants.{None};
-ghost use Rattle.gate.specs.declared.position.Phase.the-variants as P;
-ghost use Rattle.gate.specs.Accesses.{One-access};
-ghost use Rattle.gate.specs.Calls.{begin, step, refusal-of, after, done, answered, step-answer, arm-after};
-ghost use Rattle.gate.specs.Positions.{phase-of};
+ghost use Rattle.door.specs.declared.position.Phase.the-variants as P;
+ghost use Rattle.door.specs.declared.call.Call.the-variants.{Begin, Step};
+ghost use Rattle.door.specs.Accesses.{One-access};
+ghost use Rattle.gate.specs.Answers.{step-answer};
+ghost use Rattle.door.specs.Calls.{answered, refusal-of, after};
 ghost use Rattle.gate.specs.Whole.{whole};
-use crate::arm::Arm;
 use crate::gate::Gate;
-use crate::position::Doorway;
-use crate::position::Phase;
-use crate::position::Position;
-use crate::refusal::Refusal;
 use crate::tally::clear_row;
 use crate::tally::count_entry;
 use crate::tally::start_row;
 use bank::interface::Bank;
+use door::arm::Arm;
+use door::position::Doorway;
+use door::position::Phase;
+use door::position::Position;
+use door::refusal::Refusal;
 
 impl<B: Bank> Gate<B> {
     // Begins a visit of an idle arm.
     pub fn begin(&mut self, arm: usize) -> Result<Phase, Refusal>
-        ensures answer { λ r. ⌜ r ≡ answered (refusal-of (whole highest values (now (self .entry))) (begin arm)) P.D ⌝ }
-        ensures after { λ _. ⌜ whole highest values (now (self .exit)) ≡ after (whole highest values (now (self .entry))) (begin arm) ⌝ }
+        ensures answer { λ r. ⌜ r ≡ answered (refusal-of (whole highest values (now (self .entry))) (Begin arm)) P.D ⌝ }
+        ensures after { λ _. ⌜ whole highest values (now (self .exit)) ≡ after (whole highest values (now (self .entry))) (Begin arm) ⌝ }
     {
         if let Some(refusal) = self.begin_refusal(arm) {
             return Err(refusal);
@@ -39,7 +38,7 @@ impl<B: Bank> Gate<B> {
     // Makes the one access of an arm that is neither idle nor inside.
     pub fn step(&mut self, arm: usize) -> Result<Phase, Refusal>
         ensures answer { λ r. ⌜ r ≡ step-answer (whole highest values (now (self .entry))) arm ⌝ }
-        ensures after { λ _. ⌜ whole highest values (now (self .exit)) ≡ after (whole highest values (now (self .entry))) (step arm) ⌝ }
+        ensures after { λ _. ⌜ whole highest values (now (self .exit)) ≡ after (whole highest values (now (self .entry))) (Step arm) ⌝ }
         ensures one { λ _. ⌜ One-access (whole highest values (now (self .entry))) arm (values (now (self .exit) .bank)) ⌝ }
     {
         self.move_on(arm)
@@ -47,7 +46,7 @@ impl<B: Bank> Gate<B> {
 
     fn move_on(&mut self, arm: usize) -> Result<Phase, Refusal>
         ensures answer { λ r. ⌜ r ≡ step-answer (whole highest values (now (self .entry))) arm ⌝ }
-        ensures after { λ _. ⌜ whole highest values (now (self .exit)) ≡ after (whole highest values (now (self .entry))) (step arm) ⌝ }
+        ensures after { λ _. ⌜ whole highest values (now (self .exit)) ≡ after (whole highest values (now (self .entry))) (Step arm) ⌝ }
     {
         if let Some(refusal) = self.step_refusal(arm) {
             return Err(refusal);
@@ -56,9 +55,9 @@ impl<B: Bank> Gate<B> {
         let record = self.arms[at];
         let value = record
             .position
-            .access(arm, record.side_value())
+            .access(arm as u8, record.side_value())
             .make(&mut self.bank);
-        self.arms[at].advance(self.n, value);
+        self.arms[at].advance(self.n as u8, value);
         let moved = self.arms[at];
         let phase = moved.position.phase();
         match (record.position.phase(), phase) {

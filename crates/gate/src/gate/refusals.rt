@@ -1,12 +1,13 @@
 ghost use mathlib.Core.Path.{_≡_};
-ghost use Rattle.gate.specs.States.{is-arm};
-ghost use Rattle.gate.specs.Calls.{refusal-of, begin, step, admit, look, leave, tally, knows};
+ghost use Rattle.door.specs.States.{is-arm};
+ghost use Rattle.door.specs.declared.call.Call.the-variants.{Begin, Step, Admit, Way};
+ghost use Rattle.door.specs.Calls.{refusal-of, knows};
 ghost use Rattle.gate.specs.Whole.{whole};
 use crate::gate::Gate;
 use crate::pass::Pass;
-use crate::position::Phase;
-use crate::refusal::Refusal;
 use bank::interface::Bank;
+use door::position::Phase;
+use door::refusal::Refusal;
 
 // How many visits an arm begins at most.
 const VISIT_LIMIT: u32 = 1_000_000_000;
@@ -19,7 +20,7 @@ impl<B: Bank> Gate<B> {
     }
 
     pub(crate) fn begin_refusal(&self, i: usize) -> Option<Refusal>
-        ensures { λ r. ⌜ r ≡ refusal-of (whole highest values (now (self .entry))) (begin i) ⌝ }
+        ensures { λ r. ⌜ r ≡ refusal-of (whole highest values (now (self .entry))) (Begin i) ⌝ }
     {
         if !self.is_arm(i) {
             return Some(Refusal::NoArm);
@@ -33,7 +34,7 @@ impl<B: Bank> Gate<B> {
     }
 
     pub(crate) fn step_refusal(&self, i: usize) -> Option<Refusal>
-        ensures { λ r. ⌜ r ≡ refusal-of (whole highest values (now (self .entry))) (step i) ⌝ }
+        ensures { λ r. ⌜ r ≡ refusal-of (whole highest values (now (self .entry))) (Step i) ⌝ }
     {
         if !self.is_arm(i) {
             return Some(Refusal::NoArm);
@@ -47,7 +48,7 @@ impl<B: Bank> Gate<B> {
     }
 
     pub(crate) fn admit_refusal(&self, i: usize) -> Option<Refusal>
-        ensures { λ r. ⌜ r ≡ refusal-of (whole highest values (now (self .entry))) (admit i) ⌝ }
+        ensures { λ r. ⌜ r ≡ refusal-of (whole highest values (now (self .entry))) (Admit i) ⌝ }
     {
         if !self.is_arm(i) {
             return Some(Refusal::NoArm);
@@ -56,6 +57,19 @@ impl<B: Bank> Gate<B> {
         match arm.position.phase() {
             Phase::F if arm.out => Some(Refusal::Taken),
             Phase::F => None,
+            _ => Some(Refusal::Elsewhere),
+        }
+    }
+
+    pub(crate) fn way_refusal(&self, i: usize) -> Option<Refusal>
+        ensures { λ r. ⌜ r ≡ refusal-of (whole highest values (now (self .entry))) (Way i) ⌝ }
+    {
+        if !self.is_arm(i) {
+            return Some(Refusal::NoArm);
+        }
+        let arm = self.arms[i - 1];
+        match arm.position.phase() {
+            Phase::W => None,
             _ => Some(Refusal::Elsewhere),
         }
     }

@@ -1,15 +1,15 @@
 ghost use mathlib.Core.Path.{_≡_};
-ghost use Rattle.gate.specs.Calls.{index-of, look-answer, tally-answer};
-ghost use Rattle.gate.specs.States.{bit-of};
+ghost use Rattle.gate.specs.Answers.{index-of, look-answer, tally-answer};
+ghost use Rattle.door.specs.States.{bit-of};
 ghost use Rattle.gate.specs.Whole.{whole};
-use crate::access::value_at;
 use crate::gate::Gate;
 use crate::gate::Tally;
 use crate::gate::View;
-use crate::position::GROUP;
-use crate::position::Position;
-use crate::refusal::Refusal;
 use bank::interface::Bank;
+use door::access::value_at;
+use door::position::GROUP;
+use door::position::Position;
+use door::refusal::Refusal;
 
 // The arm that a waiting arm looks at, else 0.
 fn index_of(position: Position) -> usize

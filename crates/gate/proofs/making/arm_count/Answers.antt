@@ -6,9 +6,9 @@ use lib.ListN.{length}
 use lib.Dec.{eqb}
 use Rattle.std.proofs.shelf.Tests.{cond-false}
 use Rattle.std.proofs.shelf.Ways.{tells}
-use Rattle.gate.specs.Limits.{arm-limit}
-use Rattle.gate.specs.Making.{largest, arms-for}
-use Rattle.gate.proofs.Rooms.{largest-none, largest-here, largest-down}
+use Rattle.door.specs.Limits.{arm-limit}
+use Rattle.door.specs.Making.{largest, arms-for}
+use Rattle.door.proofs.Rooms.{largest-none, largest-here, largest-down}
 use Rattle.gate.proofs.making.arm_count.Needs as need
 
 -- the count that the search from above stopped at

@@ -1,8 +1,8 @@
 use Prim.Native.Nat.{_≤_, min}
 use mathlib.Core.Path.{_≡_}
 use lib.ListN.{length}
-use Rattle.gate.specs.Limits.{arm-limit}
-use Rattle.gate.specs.Making.{largest}
+use Rattle.door.specs.Limits.{arm-limit}
+use Rattle.door.specs.Making.{largest}
 use Rattle.gate.proofs.making.arm_count.Given as given
 
 -- no larger count has room

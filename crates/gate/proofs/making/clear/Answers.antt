@@ -3,7 +3,7 @@ use mathlib.Core.Path.{ap, _∙_}
 use native.Mathlib.Omega.{arith}
 use lib.ListN.{length}
 use Rattle.bank.specs.Registers.{written}
-use Rattle.gate.proofs.Rooms.{cleared-more}
+use Rattle.door.proofs.Rooms.{cleared-more}
 use Rattle.gate.proofs.making.clear.Needs as need
 
 pub loop-i-again : need.loop-i-again

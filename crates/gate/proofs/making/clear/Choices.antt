@@ -1,5 +1,5 @@
 use mathlib.Core.Path.{_≡_}
-use Rattle.gate.specs.Making.{cleared}
+use Rattle.door.specs.Making.{cleared}
 use Rattle.gate.proofs.making.clear.Given as given
 
 abbrev pub Inv-loop-i : given.InvT-loop-i

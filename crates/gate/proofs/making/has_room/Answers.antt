@@ -3,8 +3,8 @@ use mathlib.Core.Path.{_≡_, sym, ap, _∙_}
 use native.Mathlib.Omega.{arith}
 use lib.ListN.{length}
 use lib.Dec.{leb}
-use Rattle.gate.specs.Making.{room}
-use Rattle.gate.proofs.Rooms.{some-room, none-room}
+use Rattle.door.specs.Making.{room}
+use Rattle.door.proofs.Rooms.{some-room, none-room}
 use Rattle.gate.proofs.making.has_room.Needs as need
 
 pub returns-in-Some : need.returns-in-Some

@@ -1,8 +1,8 @@
 use Prim.Native.Nat.{_<_}
 use mathlib.Core.Path.{sym, _∙_}
 use native.Mathlib.Omega.{arith}
-use Rattle.gate.specs.Tallies.{counted}
-use Rattle.gate.proofs.Tables.{each-from}
+use Rattle.door.specs.Tallies.{counted}
+use Rattle.door.proofs.Tables.{each-from}
 use Rattle.gate.proofs.tally.count_entry.Needs as need
 
 pub returns : need.returns

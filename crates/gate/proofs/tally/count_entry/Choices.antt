@@ -1,9 +1,9 @@
 use Prim.Native.Nat.{ℕ, _<_, _≤_}
 use mathlib.Core.Path.{_≡_}
 use lib.ListN.{length, getD}
-use Rattle.gate.specs.Limits.{arm-limit}
-use Rattle.gate.specs.Arms.{no-arm}
-use Rattle.gate.specs.Tallies.{counted}
+use Rattle.door.specs.Limits.{arm-limit}
+use Rattle.door.specs.Arms.{no-arm}
+use Rattle.door.specs.Tallies.{counted}
 use Rattle.gate.proofs.tally.count_entry.Given as given
 
 -- the records below k are counted, the others as they were

@@ -1,9 +1,9 @@
 use mathlib.Core.Path.{sym, _∙_}
 use mathlib.Core.Bool.{false}
 use native.Mathlib.Omega.{arith}
-use Rattle.gate.specs.Arms.{no-arm}
-use Rattle.gate.specs.Tallies.{is-idle}
-use Rattle.gate.proofs.Tables.{map-from}
+use Rattle.door.specs.Arms.{no-arm}
+use Rattle.door.specs.Tallies.{is-idle}
+use Rattle.door.proofs.Tables.{map-from}
 use Rattle.gate.proofs.tally.idle_arms.Needs as need
 
 pub returns : need.returns

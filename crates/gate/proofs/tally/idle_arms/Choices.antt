@@ -2,9 +2,9 @@ use Prim.Native.Nat.{ℕ, _<_, _≤_}
 use mathlib.Core.Path.{_≡_}
 use mathlib.Core.Bool.{false}
 use lib.ListN.{getD, length}
-use Rattle.gate.specs.Limits.{arm-limit}
-use Rattle.gate.specs.Arms.{no-arm}
-use Rattle.gate.specs.Tallies.{is-idle}
+use Rattle.door.specs.Limits.{arm-limit}
+use Rattle.door.specs.Arms.{no-arm}
+use Rattle.door.specs.Tallies.{is-idle}
 use Rattle.gate.proofs.tally.idle_arms.Given as given
 
 -- the places below k tell who is idle

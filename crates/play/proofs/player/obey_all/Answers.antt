@@ -3,7 +3,7 @@ use mathlib.Core.Path.{_≡_, refl, sym, ap, _∙_}
 use native.Mathlib.Omega.{arith}
 use lib.ListN.{length, drop, length-drop}
 use Rattle.std.proofs.shelf.Lists.{drop-all}
-use Rattle.gate.specs.Calls.{unless}
+use Rattle.door.specs.Calls.{unless}
 use Rattle.gate.specs.Whole.{whole}
 use Rattle.schedule.specs.Reading.{says}
 use Rattle.schedule.proofs.Told.{told, said, no-fault, next-told}

@@ -2,7 +2,7 @@ use Prim.Native.Nat.{_<_, _^_}
 use mathlib.Core.Path.{_≡_, sym, ap, _∙_}
 use borrow.Author.Needs.{needs}
 use lib.ListN.{length}
-use Rattle.gate.specs.States.{made}
+use Rattle.door.specs.States.{made}
 use Rattle.gate.specs.Whole.{whole}
 use Rattle.schedule.proofs.Told.{refused}
 use Rattle.play.specs.Playing.{playable, play-answer, play-regs, play-memory}

@@ -3,7 +3,7 @@ use mathlib.Core.Path.{_≡_, sym, ap, _∙_}
 use native.Mathlib.Numerals.{add-one}
 use native.Mathlib.Omega.{arith}
 use lib.ListN.{getD}
-use Rattle.gate.specs.States.{arm-at}
+use Rattle.door.specs.States.{arm-at}
 use Rattle.gate.specs.Whole.{whole}
 use Rattle.play.specs.Reports.{largest-count}
 use Rattle.play.proofs.report.largest.Needs as need

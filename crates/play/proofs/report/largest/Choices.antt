@@ -1,5 +1,5 @@
 use mathlib.Core.Path.{_≡_}
-use Rattle.gate.specs.States.{arm-at}
+use Rattle.door.specs.States.{arm-at}
 use Rattle.gate.specs.Whole.{whole}
 use Rattle.play.specs.Reports.{largest-count}
 use Rattle.play.proofs.report.largest.Given as given

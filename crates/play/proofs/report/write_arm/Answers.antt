@@ -1,7 +1,7 @@
 use mathlib.Core.Path.{_≡_, ap, _∙_}
 use mathlib.Core.List.{[], _∷_}
 use borrow.Author.Needs.{needs}
-use Rattle.gate.specs.Positions.{letter-of}
+use Rattle.door.specs.Positions.{letter-of}
 use Rattle.play.specs.Text.{decimal}
 use Rattle.play.specs.Reports.{side-text}
 use Rattle.play.proofs.Additions.{_then_, reading}

@@ -2,9 +2,9 @@ use Prim.Native.Nat.{_<_, _≤_}
 use mathlib.Core.Path.{_≡_, sym, refl, ap, subst}
 use native.Mathlib.Omega.{arith}
 use lib.ListN.{length}
-use Rattle.gate.specs.Limits.{arm-limit}
-use Rattle.gate.specs.Making.{room, arms-for}
-use Rattle.gate.proofs.Rooms.{arms-few, arms-fit}
+use Rattle.door.specs.Limits.{arm-limit}
+use Rattle.door.specs.Making.{room, arms-for}
+use Rattle.door.proofs.Rooms.{arms-few, arms-fit}
 use Rattle.gate.proofs.gate.Gate.make.Needs as need
 
 pub registers-requires : need.registers-requires

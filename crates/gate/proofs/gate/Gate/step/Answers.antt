@@ -1,5 +1,5 @@
 use Rattle.gate.specs.Whole.{whole}
-use Rattle.gate.proofs.Spared.{one-access}
+use Rattle.door.proofs.Spared.{one-access}
 use Rattle.gate.proofs.gate.Gate.step.Needs as need
 
 pub returns : need.returns

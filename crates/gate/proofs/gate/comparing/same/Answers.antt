@@ -4,9 +4,9 @@ use native.Mathlib.Omega.{arith}
 use borrow.Author.Needs.{needs}
 use lib.Dec.{T}
 use lib.ListN.{getD}
-use Rattle.gate.specs.Arms.{no-arm}
-use Rattle.gate.specs.Positions.{letter-of, phase-of}
-use Rattle.gate.specs.Making.{room}
+use Rattle.door.specs.Arms.{no-arm}
+use Rattle.door.specs.Positions.{letter-of, phase-of}
+use Rattle.door.specs.Making.{room}
 use Rattle.gate.proofs.gate.comparing.same.Needs as need
 
 pub returns-then-same-registers : need.returns-then-same-registers

@@ -1,8 +1,8 @@
 use Prim.Native.Nat.{ℕ, _<_}
 use mathlib.Core.Path.{_≡_}
 use lib.ListN.{getD}
-use Rattle.gate.specs.Arms.{no-arm}
-use Rattle.gate.specs.Positions.{phase-of, letter-of}
+use Rattle.door.specs.Arms.{no-arm}
+use Rattle.door.specs.Positions.{phase-of, letter-of}
 use Rattle.gate.proofs.gate.comparing.same_phases.Given as given
 
 abbrev pub Inv-loop-k : given.InvT-loop-k

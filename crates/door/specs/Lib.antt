@@ -1,0 +1,12 @@
+pub mod Limits
+pub mod Positions
+pub mod Arms
+pub mod Refusals
+pub mod Making
+pub mod Tallies
+pub mod States
+pub mod Calls
+pub mod Bounded
+pub mod History
+pub mod Law
+pub mod Accesses
