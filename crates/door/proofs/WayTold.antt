@@ -10,10 +10,10 @@ use lib.ListN.{getD}
 use Rattle.std.proofs.shelf.Tests.{cases-eq, ne-eqb, cond-false}
 use Rattle.std.specs.declared.option.Option.{Option}
 use Rattle.std.specs.declared.option.Option.the-variants.{Some, None}
-use Rattle.door.specs.Positions.{group, side-of}
+use Rattle.door.specs.Positions.{group, side-of, has-side}
 use Rattle.door.specs.Arms.{no-arm}
 use Rattle.door.specs.States.{State, arm-at, bit-of}
-use Rattle.door.specs.Calls.{has-side, some-side, has-way}
+use Rattle.door.specs.Calls.{some-side, has-way}
 use Rattle.door.specs.History.{RightOfWay}
 use Rattle.door.specs.declared.arm.Arm.{Arm}
 use Rattle.door.proofs.Bools.{same, same-sym, opposite, differ, test, clash, none-of, or-T, T-or-left, T-or-right}

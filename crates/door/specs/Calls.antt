@@ -9,7 +9,7 @@ use Rattle.std.specs.declared.option.Option.the-variants.{Some, None}
 use Rattle.std.specs.declared.result.Result.{Result}
 use Rattle.std.specs.declared.result.Result.the-variants.{Ok, Err}
 use Rattle.door.specs.Limits.{visit-limit}
-use Rattle.door.specs.Positions.{phase-of, side-of, access-of, value-read, regs-after}
+use Rattle.door.specs.Positions.{phase-of, side-of, has-side, access-of, value-read, regs-after}
 use Rattle.door.specs.Arms.{no-arm, advanced}
 use Rattle.door.specs.Tallies.{tallied}
 use Rattle.door.specs.States.{State, is-arm, arm-at, phase-at, bit-of, with-table, with-arm}
@@ -122,11 +122,6 @@ run s (c ∷ cs) = run (after s c) cs
 abbrev pub answered : {X : Type 0} → Option Refusal → X → Result X Refusal
 answered None x = Ok x
 answered (Some r) x = Err r
-
--- whether a side is t
-abbrev pub has-side : ℕ → Option ℕ → Bool
-has-side t (Some s) = eqb s t
-has-side t None = false
 
 -- whether one of the first k arms has side t
 abbrev pub some-side : ℕ → List Arm → ℕ → Bool

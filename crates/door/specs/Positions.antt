@@ -123,3 +123,8 @@ side-after v (Leaving X2) s = None
 abbrev pub side-of : Option ℕ → ℕ
 side-of (Some s) = s
 side-of None = 0
+
+-- whether a side is t
+abbrev pub has-side : ℕ → Option ℕ → Bool
+has-side t (Some s) = eqb s t
+has-side t None = false

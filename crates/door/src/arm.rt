@@ -1,5 +1,5 @@
 ghost use mathlib.Core.Path.{_≡_};
-ghost use Rattle.door.specs.Positions.{side-of, onward};
+ghost use Rattle.door.specs.Positions.{side-of, has-side, onward};
 ghost use Rattle.door.specs.Arms.{advanced, sided};
 use crate::position::Doorway;
 use crate::position::Exit;
@@ -44,6 +44,16 @@ impl Arm {
         match self.side {
             Some(side) => side,
             None => 0,
+        }
+    }
+
+    // Whether the arm has side t.
+    pub fn has_side(&self, t: u64) -> bool
+        ensures { λ r. ⌜ r ≡ has-side t (now (self .entry) .side) ⌝ }
+    {
+        match self.side {
+            Some(side) => side == t,
+            None => false,
         }
     }
 

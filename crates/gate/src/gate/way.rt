@@ -1,7 +1,7 @@
 ghost use mathlib.Core.Path.{_≡_};
 ghost use Prim.Native.Nat.{_≤_};
 ghost use Rattle.door.specs.Limits.{arm-limit};
-ghost use Rattle.door.specs.Calls.{way-answer, has-side, some-side};
+ghost use Rattle.door.specs.Calls.{way-answer, some-side};
 ghost use Rattle.door.specs.Law.{Law, Tells};
 ghost use Rattle.gate.specs.Whole.{whole};
 use crate::gate::Gate;
@@ -10,16 +10,6 @@ use door::arm::ARM_LIMIT;
 use door::arm::Arm;
 use door::refusal::Refusal;
 
-// Whether a side is t.
-fn has_side(side: Option<u64>, t: u64) -> bool
-    ensures { λ r. ⌜ r ≡ has-side t side ⌝ }
-{
-    match side {
-        Some(side) => side == t,
-        None => false,
-    }
-}
-
 // Whether one of the first n arms has side t, in its doorway or past it.
 fn some_side(arms: &[Arm; ARM_LIMIT], n: usize, t: u64) -> bool
     requires { ⌜ n ≤ arm-limit ⌝ }
@@ -27,7 +17,7 @@ fn some_side(arms: &[Arm; ARM_LIMIT], n: usize, t: u64) -> bool
 {
     for k in 0..n {
         let arm = arms[k];
-        if has_side(arm.side, t) {
+        if arm.has_side(t) {
             return true;
         }
     }

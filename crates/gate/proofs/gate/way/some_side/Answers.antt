@@ -7,7 +7,8 @@ use lib.ListN.{getD}
 use borrow.Author.Needs.{needs}
 use Rattle.std.proofs.shelf.Tests.{or-from}
 use Rattle.door.specs.Arms.{no-arm}
-use Rattle.door.specs.Calls.{has-side, some-side}
+use Rattle.door.specs.Positions.{has-side}
+use Rattle.door.specs.Calls.{some-side}
 use Rattle.door.proofs.Bools.{is-true, T-true}
 use Rattle.door.proofs.WayTold.{some-at}
 use Rattle.gate.proofs.gate.way.some_side.Needs as need
