@@ -1,5 +1,7 @@
 // Plays the schedule files that its arguments name, and prints what came of each:
 // the report or the fault line; whether a byte bank ends in the same text; the fault with one byte too little of memory.
+mod cases;
+
 use bank::bit_bank::BitBank;
 use bank::bit_bank::BitRegisters;
 use bank::byte_bank::ByteBank;

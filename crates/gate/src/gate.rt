@@ -1,6 +1,7 @@
 ghost use mathlib.Core.Path.{_≡_};
 ghost use Prim.Native.Nat.{_≤_};
 ghost use lib.ListN.{length};
+ghost use Rattle.door.specs.Limits.{arm-limit};
 // Making a gate, and taking it apart.
 mod making;
 // Which calls are refused.
@@ -30,8 +31,8 @@ pub struct Gate<B: Bank> {
     number: u16,
     n: usize,
     arms: [Arm; ARM_LIMIT],
-    ghost few: { n ≤ 32 },
-    ghost full: { length arms ≡ 32 },
+    ghost few: { n ≤ arm-limit },
+    ghost full: { length arms ≡ arm-limit },
 }
 
 // What look tells of an arm.

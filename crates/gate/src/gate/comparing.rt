@@ -2,6 +2,7 @@ ghost use mathlib.Core.Path.{_≡_};
 ghost use Prim.Native.Nat.{ℕ, _<_, _≤_};
 ghost use lib.Dec.{T};
 ghost use lib.ListN.{getD};
+ghost use Rattle.door.specs.Limits.{arm-limit};
 ghost use Rattle.gate.specs.Alike.{Alike};
 ghost use Rattle.door.specs.Positions.{phase-of, letter-of};
 ghost use Rattle.door.specs.Arms.{no-arm};
@@ -28,7 +29,7 @@ fn same_registers<B: Bank, C: Bank>(a: &B, b: &C, count: usize) -> bool
 
 // Whether the first records of two tables have the same phase letters.
 fn same_phases(a: &[Arm; ARM_LIMIT], b: &[Arm; ARM_LIMIT], count: usize) -> bool
-    requires { ⌜ count ≤ 32 ⌝ }
+    requires { ⌜ count ≤ arm-limit ⌝ }
     ensures yes { λ r. ⌜ (T r → (k : ℕ) → k < count → letter-of (phase-of (getD (now (a .entry)) k no-arm .position)) ≡ letter-of (phase-of (getD (now (b .entry)) k no-arm .position))) ⌝ }
     ensures only { λ r. ⌜ (((k : ℕ) → k < count → letter-of (phase-of (getD (now (a .entry)) k no-arm .position)) ≡ letter-of (phase-of (getD (now (b .entry)) k no-arm .position))) → T r) ⌝ }
 {
