@@ -23,7 +23,7 @@ use Rattle.schedule.specs.declared.order.Order.the-variants.{Begin, Step, Leave
 use Rattle.schedule.specs.declared.reader.Heading.{Heading}
 use Rattle.schedule.proofs.Told.{told, said, Said, refused}
 use Rattle.play.specs.Limits.{report-room}
-use Rattle.play.specs.Playing.{obeyed, obeyed-all, refusals, obeyed-by, refused-by, playable, start, end, play-text, play-answer, play-regs, play-memory}
+use Rattle.play.specs.Playing.{obeyed, obeyed-all, refusals, obeyed-by, refused-by, playable, start, end, play-text, play-answer, play-regs, play-memory, Fits}
 use Rattle.play.specs.Reports.{report-text, takes, text-answer, text-memory}
 use Rattle.play.specs.Text.{overwritten}
 use Rattle.play.proofs.Fits.{report-fits}
@@ -107,6 +107,12 @@ module _ (high : ℕ) (regs memory file : List ℕ) (h : Heading) (e : Ok h ≡ 
       cond-true (takes memory (report-text g₁ (h .orders) no-ones)) (Ok (length (report-text g₁ (h .orders) no-ones))) (Err ShortMemory) taken
       ∙ ap (λ t. Ok (length t)) text-is
       ∙ sym (ap (play-answer high regs) (says-it .is))
+
+  pub fits : Fits (text-answer memory (report-text g₁ (h .orders) no-ones))
+  fits =
+      subst Fits
+      (sym (cond-true (takes memory (report-text g₁ (h .orders) no-ones)) (Ok (length (report-text g₁ (h .orders) no-ones))) (Err ShortMemory) taken))
+      (report-fits g₁ (h .orders) no-ones (subst Bounded (sym end-is) (end-bounded high regs contents)) few fewer)
 
   pub memory-is : text-memory memory (report-text g₁ (h .orders) no-ones) ≡ play-memory high regs memory (playable file (length memory))
   memory-is =

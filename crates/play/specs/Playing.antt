@@ -1,5 +1,5 @@
 -- What playing a file comes to.
-use Prim.Native.Nat.{ℕ, _+_}
+use Prim.Native.Nat.{ℕ, _+_, _≤_}
 use mathlib.Core.Bool.{cond}
 use mathlib.Core.List.{List, [], _∷_}
 use lib.Dec.{leb}
@@ -74,6 +74,11 @@ play-regs high regs (Err fault) = regs
 abbrev pub play-memory : ℕ → List ℕ → List ℕ → Result Contents PlayFault → List ℕ
 play-memory high regs memory (Ok c) = overwritten memory (play-text high regs c)
 play-memory high regs memory (Err fault) = memory
+
+-- no report is longer than the least memory
+abbrev pub Fits : Result ℕ PlayFault → Type 0
+Fits (Ok n) = n ≤ report-room
+Fits (Err fault) = Unit {0}
 
 -- the same from a gate in hand, for the orders of a file
 abbrev pub obeyed-by : Result Contents PlayFault → State → State

@@ -7,7 +7,7 @@ ghost use Rattle.door.specs.Calls.{refusal-of, unless};
 ghost use Rattle.door.specs.declared.call.Call.the-variants.{Admit};
 ghost use Rattle.gate.specs.Whole.{whole};
 ghost use Rattle.schedule.specs.Reading.{says, heading-of};
-ghost use Rattle.play.specs.Playing.{order-refusal, obeyed, left-at-once, playable, obeyed-by, refused-by, play-answer, play-regs, play-memory};
+ghost use Rattle.play.specs.Playing.{order-refusal, obeyed, left-at-once, playable, obeyed-by, refused-by, play-answer, play-regs, play-memory, Fits};
 use crate::report::REPORT_ROOM;
 use crate::report::report;
 use crate::service::Service;
@@ -117,6 +117,7 @@ fn perform<B: Bank>(file: &[u8], bank: B, memory: &mut [u8]) -> Played<B>
     ensures answer { λ r. ⌜ r .answer ≡ play-answer highest (values bank) (playable (now (file .entry)) (length (now (memory .entry)))) ⌝ }
     ensures registers { λ r. ⌜ values (r .bank) ≡ play-regs highest (values bank) (playable (now (file .entry)) (length (now (memory .entry)))) ⌝ }
     ensures report { λ _. ⌜ now (memory .exit) ≡ play-memory highest (values bank) (now (memory .entry)) (playable (now (file .entry)) (length (now (memory .entry)))) ⌝ }
+    ensures fits { λ r. ⌜ Fits (r .answer) ⌝ }
 {
     let heading = match ready(file, memory.len()) {
         Ok(heading) => heading,
@@ -140,6 +141,7 @@ pub fn play<B: Bank>(file: &[u8], bank: B, memory: &mut [u8], service: &mut u8) 
     ensures answer { λ r. ⌜ r .answer ≡ play-answer highest (values bank) (playable (now (file .entry)) (length (now (memory .entry)))) ⌝ }
     ensures registers { λ r. ⌜ values (r .bank) ≡ play-regs highest (values bank) (playable (now (file .entry)) (length (now (memory .entry)))) ⌝ }
     ensures report { λ _. ⌜ now (memory .exit) ≡ play-memory highest (values bank) (now (memory .entry)) (playable (now (file .entry)) (length (now (memory .entry)))) ⌝ }
+    ensures fits { λ r. ⌜ Fits (r .answer) ⌝ }
     ensures restored { λ _. ⌜ now (service .exit) ≡ now (service .entry) ⌝ }
 {
     let _guard = Service::start(service);

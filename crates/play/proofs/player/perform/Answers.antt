@@ -1,12 +1,12 @@
 use Prim.Native.Nat.{_<_, _^_}
-use mathlib.Core.Path.{_≡_, sym, ap, _∙_}
+use mathlib.Core.Path.{_≡_, sym, ap, subst, _∙_}
 use borrow.Author.Needs.{needs}
 use lib.ListN.{length}
 use Rattle.door.specs.States.{made}
 use Rattle.gate.specs.Whole.{whole}
 use Rattle.schedule.proofs.Told.{refused}
-use Rattle.play.specs.Playing.{playable, play-answer, play-regs, play-memory}
-use Rattle.play.proofs.Ends.{answer-is, memory-is, regs-is}
+use Rattle.play.specs.Playing.{playable, play-answer, play-regs, play-memory, Fits}
+use Rattle.play.proofs.Ends.{answer-is, memory-is, regs-is, fits}
 use Rattle.play.proofs.player.perform.Needs as need
 
 pub returns-in-Err : need.returns-in-Err
@@ -18,6 +18,7 @@ returns-in-Err g c =
       answer = sym (ap (play-answer high regs) e);
       registers = sym (ap (play-regs high regs) e);
       report = sym (ap (play-memory high regs (c .args .memory .now)) e);
+      fits = tt;
     }
 
 pub returns : need.returns
@@ -39,4 +40,5 @@ returns g c =
       answer = c .report-answer .ensures .answer ∙ answer-is high regs memory file h e g₀ g₁ k made-is (c .obey-all-refused .ensures .after) (c .obey-all-refused .ensures .refused) few fewer;
       registers = ap values (c .into-bank .ensures) ∙ regs-is high regs memory file h e g₀ g₁ k made-is (c .obey-all-refused .ensures .after) (c .obey-all-refused .ensures .refused) few fewer;
       report = c .report-answer .ensures .after ∙ memory-is high regs memory file h e g₀ g₁ k made-is (c .obey-all-refused .ensures .after) (c .obey-all-refused .ensures .refused) few fewer;
+      fits = subst Fits (sym (c .report-answer .ensures .answer)) (fits high regs memory file h e g₀ g₁ k made-is (c .obey-all-refused .ensures .after) (c .obey-all-refused .ensures .refused) few fewer);
     }
