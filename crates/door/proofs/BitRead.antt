@@ -1,8 +1,8 @@
 -- The bit that an arm read, found in the history, is its side.
 use Prim.Native.Nat.{ℕ, _≤_}
 use mathlib.Core.Path.{_≡_, refl, sym, ap, subst, _∙_}
-use mathlib.Core.Bool.{Bool, true, false, not, _&&_, cond}
-use mathlib.Core.Logic.{_≢_, _⊎_, inl, inr, ⊎-elim}
+use mathlib.Core.Bool.{Bool, false, not, _&&_, cond}
+use mathlib.Core.Logic.{_⊎_, inl, inr, ⊎-elim}
 use mathlib.Core.List.{List, [], _∷_}
 use native.Mathlib.Omega.{arith}
 use lib.Dec.{T, eqb, eqb→eq, eqb-refl}
@@ -12,14 +12,14 @@ use Rattle.door.specs.Positions.{group, phase-of, access-of, side-of}
 use Rattle.door.specs.Tallies.{same-phase}
 use Rattle.door.specs.States.{State, arm-at}
 use Rattle.door.specs.Calls.{access-at, after, run}
-use Rattle.door.specs.History.{is-in, steps, moves, of-group, reads-group, bit-read}
+use Rattle.door.specs.History.{is-in, steps, moves, of-group, reads-group, latest-bit}
 use Rattle.door.specs.declared.call.Call.{Call}
 use Rattle.door.specs.declared.position.Phase.the-variants as P
-use Rattle.door.proofs.Bools.{same, same-refl, same-path, clash, none-of, and-T, T-and, is-false, by}
+use Rattle.door.proofs.Bools.{same, same-refl, same-path, clash, and-T, T-and, by}
 use Rattle.door.proofs.Machine.{Stance, idle, d1, d2, d3, d4, d5, waits, inside, x1, x2, position, at, side, has, outcome, step-arm, Move, begin, step, admit, leave, is-step, act, allowed, without-access, begin-arm, admit-arm, leave-arm, changed-same, changed-other, Machine, moved}
 use Rattle.door.proofs.Invariant.{inv-moved}
 use Rattle.door.proofs.Waiting.{doorway-steps, phase-waits}
-use Rattle.door.proofs.Mirror.{bit, as-bit, register, Mirror}
+use Rattle.door.proofs.Mirror.{bit, as-bit, register}
 use Rattle.door.proofs.Reached.{Came, stays, goes, came, phase-shown, Sound}
 
 -- the one doorway place that reads the group
@@ -111,7 +111,7 @@ module _ (w n : ℕ) (wlo : 1 ≤ w) (whi : w ≤ n) where
             (λ ne. was .reads u (subst (λ y. T (has u y)) (changed-other (g .arms) i _ w (λ z. ne (sym z))) h))
             (cases-eq i w)
 
-  pub read-run : (cs : List Call) (s : State) (v : ℕ) → Read s v → Read (run s cs) (bit-read w s cs v)
+  pub read-run : (cs : List Call) (s : State) (v : ℕ) → Read s v → Read (run s cs) (latest-bit w s cs v)
   read-run [] s v h = h
   read-run (c ∷ cs) s v h = read-run cs (after s c) _ (went s v h c (came s (h .sound .machine) (h .sound .mirror) (h .sound .keeps) c))
 

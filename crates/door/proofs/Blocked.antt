@@ -2,7 +2,7 @@
 use Prim.Native.Nat.{ℕ, zero, suc, _+_, _*_, _≤_}
 use mathlib.Core.Path.{_≡_, refl, sym, ap, subst, _∙_}
 use mathlib.Core.Bool.{Bool, true, false, not, _&&_, cond}
-use mathlib.Core.Logic.{_≢_, _⊎_, inl, inr, ⊎-elim}
+use mathlib.Core.Logic.{_≢_, ⊎-elim}
 use mathlib.Core.List.{List, [], _∷_}
 use native.Mathlib.Omega.{arith}
 use lib.Dec.{T, eqb, eqb→eq, eqb-refl}
@@ -12,13 +12,13 @@ use Rattle.door.specs.Positions.{phase-of}
 use Rattle.door.specs.Tallies.{same-phase}
 use Rattle.door.specs.States.{State, is-arm, phase-at}
 use Rattle.door.specs.Calls.{refusal-of, step-refusal, after}
-use Rattle.door.specs.History.{none, accepted, is-in, steps, moves, goes-inside, GoesInside, steps-in, NoOtherInDoorway, RightOfWay}
+use Rattle.door.specs.History.{no-refusal, accepted, is-in, steps, moves, goes-inside, GoesInside, steps-in, NoOtherInDoorway, RightOfWay}
 use Rattle.door.specs.declared.call.Call.{Call}
 use Rattle.door.specs.declared.call.Call.the-variants.{Step}
 use Rattle.door.specs.declared.position.Phase.{Phase}
 use Rattle.door.specs.declared.position.Phase.the-variants as P
-use Rattle.door.proofs.Bools.{same, same-sym, opposite, clash, none-of, and-T, T-and, by, cond-on, is-true, is-false, ne-test, test-ne}
-use Rattle.door.proofs.Machine.{Stance, idle, d1, d2, d3, d4, d5, waits, inside, x1, x2, at, has, step-arm, turn-step, Move, begin, step, admit, leave, is-step, allowed, may-step, changed, changed-same, changed-other, Machine, moved}
+use Rattle.door.proofs.Bools.{same, same-sym, opposite, clash, none-of, and-T, T-and, by, cond-on, is-false, ne-test, test-ne}
+use Rattle.door.proofs.Machine.{Stance, idle, d1, d2, d3, d4, d5, waits, inside, x1, x2, at, has, step-arm, turn-step, Move, step, is-step, allowed, may-step, changed-same, changed-other, Machine, moved}
 use Rattle.door.proofs.Invariant.{Inv, inv-moved}
 use Rattle.door.proofs.Waiting.{Waiting, only-steps, doorway-steps, not-both, D-awake, find, has-own, other-waits, own-out, own-free}
 use Rattle.door.proofs.Potential.{total, total-drop, mask-le, mask-off}
@@ -70,7 +70,7 @@ step-accepted : (s : State) (g : Machine) → Mirror s g → (i : ℕ) → 1 ≤
 step-accepted s g mir i lo hi k =
     let e : step-refusal (phase-at s i) ≡ None = step-free (phase-at s i) (subst (λ y. T (not (same-phase (phase-of y) P.I) && not (same-phase (phase-of y) P.F))) (sym (mir .shows i lo hi .stands)) k) in
     let r : refusal-of s (Step i) ≡ None = cond-on (is-arm s i) (step-refusal (phase-at s i)) _ (arm-is s i lo hi) ∙ e in
-    subst (λ x. T (none x)) (sym r) tt
+    subst (λ x. T (no-refusal x)) (sym r) tt
 
 step-mirrored : (s : State) (g : Machine) → Mirror s g → Inv g → (i : ℕ) → 1 ≤ i → i ≤ s .n → T (may-step (g .arms i)) → ((m : Move) → T (allowed m (g .arms i)) → m ≡ step) → Mirror (after s (Step i)) (moved g step i)
 step-mirrored s g mir inv i lo hi k only = go (came s g mir inv (Step i))
@@ -186,7 +186,7 @@ module _ (u : ℕ) (sd : Bool) (n : ℕ) (ulo : 1 ≤ u) (uhi : u ≤ n) (k : �
       (mask-off (eqb l u) _ _ 1 (y .0) (subst (λ c. ahead c + 1 ≤ ahead (g .arms l)) (sym (changed-same (g .arms) l a′)) (passes .0))) in
       let rest = end-doorways B m (after s (Step l)) g′ barred (omega arith) in
       let not-own : T (steps u s (Step l)) → ⊥ = λ t. lne (eqb→eq l u (and-T (accepted s (Step l)) (eqb l u) t .1)) in
-      let zero-more = none-more (steps u s (Step l)) (is-false (steps u s (Step l)) (none-of _ not-own)) in
+      let zero-more = none-more (steps u s (Step l)) (is-false (steps u s (Step l)) (none-of (steps u s (Step l)) not-own)) in
       record {
         calls = Step l ∷ rest .calls;
         count = let z = rest .count in omega arith;

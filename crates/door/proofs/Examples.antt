@@ -9,7 +9,7 @@ use Rattle.door.specs.States.{State, made, arm-at, phase-at}
 use Rattle.door.specs.Calls.{run, has-way}
 use Rattle.door.specs.History.{bit-read, entries-since, idle-then}
 use Rattle.door.specs.declared.call.Call.{Call}
-use Rattle.door.specs.declared.call.Call.the-variants.{Begin as begin, Step as step, Admit as admit, Leave as leave, Way as way}
+use Rattle.door.specs.declared.call.Call.the-variants.{Begin as begin, Step as step, Admit as admit, Leave as leave}
 use Rattle.door.specs.declared.position.Phase.the-variants as P
 
 abbrev steps-of : ℕ → ℕ → List Call
@@ -30,11 +30,11 @@ still-waits : phase-at (run first one-past) 2 ≡ P.W
 unfolding largest
 still-waits = refl
 
-bit-of-second : bit-read 2 first one-past 0 ≡ 0
+bit-of-second : bit-read 2 first one-past ≡ 0
 unfolding largest
 bit-of-second = refl
 
-past-second : entries-since 2 1 first one-past 0 ≡ 1
+past-second : entries-since 2 1 first one-past ≡ 1
 unfolding largest
 past-second = refl
 
@@ -50,11 +50,11 @@ abbrev two-past : List Call
 two-past = begin 2 ∷ begin 3 ∷ [] ++ steps-of 2 5 ++ steps-of 3 5 ++ steps-of 3 9 ++ (admit 3 ∷ leave 7 3 ∷ []) ++ steps-of 3 2 ++ (begin 1 ∷ []) ++ steps-of 1 5 ++ steps-of 2 1
     ++ (admit 2 ∷ leave 7 2 ∷ []) ++ steps-of 2 2 ++ (begin 2 ∷ []) ++ steps-of 2 5 ++ steps-of 2 15
 
-bit-of-first : bit-read 1 second two-past 0 ≡ 1
+bit-of-first : bit-read 1 second two-past ≡ 1
 unfolding largest
 bit-of-first = refl
 
-past-first : entries-since 1 2 second two-past 0 ≡ 2
+past-first : entries-since 1 2 second two-past ≡ 2
 unfolding largest
 past-first = refl
 
@@ -62,10 +62,10 @@ row-of-first : getD (arm-at (run second two-past) 1 .row) 1 0 ≡ 2
 unfolding largest
 row-of-first = refl
 
-busy-then : idle-then 1 2 second two-past false ≡ false
+busy-then : idle-then 1 2 second two-past ≡ false
 unfolding largest
 busy-then = refl
 
-idle-third : idle-then 1 3 second two-past false ≡ true
+idle-third : idle-then 1 3 second two-past ≡ true
 unfolding largest
 idle-third = refl

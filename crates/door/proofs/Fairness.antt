@@ -1,12 +1,12 @@
 -- The law of the gate: each of its parts for every making and every list of calls.
 use Prim.Native.Nat.{ℕ, _+_, _*_, _-_, _≤_}
 use mathlib.Core.Path.{_≡_, refl, sym, ap, subst, _∙_}
-use mathlib.Core.Bool.{Bool, true, false, not, _&&_}
-use mathlib.Core.Logic.{_⊎_, inl, inr, ⊎-elim, _↔_}
+use mathlib.Core.Bool.{Bool, true, false, not}
+use mathlib.Core.Logic.{⊎-elim, _↔_}
 use mathlib.Core.List.{List}
 use native.Mathlib.Omega.{arith}
-use lib.Dec.{T, eqb}
-use lib.ListN.{length, getD, replicate}
+use lib.Dec.{T}
+use lib.ListN.{length}
 use Rattle.std.proofs.shelf.Lists.{getD-replicate, length-replicate}
 use Rattle.std.specs.declared.option.Option.the-variants.{Some, None}
 use Rattle.std.specs.declared.result.Result.{Result}
@@ -17,9 +17,8 @@ use Rattle.door.specs.Arms.{fresh, no-arm}
 use Rattle.door.specs.States.{State, made, is-arm, arm-at, phase-at}
 use Rattle.door.specs.Tallies.{same-phase}
 use Rattle.door.specs.Calls.{run, refusal-of, way-refusal, answered, has-way, way-answer}
-use Rattle.door.specs.History.{is-in, Waits, RightOfWay, bit-read, entries-since, idle-then, Rounds, GoesInside}
+use Rattle.door.specs.History.{is-in, Waits, RightOfWay, bit-read, entries-since, idle-then, Rounds}
 use Rattle.door.specs.Law.{Fair, Law, Tells}
-use Rattle.door.specs.declared.arm.Arm.{Arm}
 use Rattle.door.specs.declared.call.Call.{Call}
 use Rattle.door.specs.declared.call.Call.the-variants.{Way}
 use Rattle.door.specs.declared.position.Phase.{Phase}
@@ -29,12 +28,12 @@ use Rattle.door.proofs.Bools.{same, same-sym, same-path, same-trans, opposite,
 use Rattle.door.proofs.Rooms.{arms-few}
 use Rattle.door.proofs.Machine.{Machine, side, has}
 use Rattle.door.proofs.Invariant.{Free}
-use Rattle.door.proofs.Waiting.{Waiting, phase-waits, has-own}
+use Rattle.door.proofs.Waiting.{Waiting, phase-waits}
 use Rattle.door.proofs.Mirror.{bit, as-bit}
 use Rattle.door.proofs.Reached.{Sound, arm-in, run-n, run-sound, made-sound, phase-shown}
 use Rattle.door.proofs.Past.{Past, past-run, past-bound, none-itself}
 use Rattle.door.proofs.Rows.{Row, row-run}
-use Rattle.door.proofs.BitRead.{Read, read-run, read-side}
+use Rattle.door.proofs.BitRead.{read-run, read-side}
 use Rattle.door.proofs.WayTold.{way-free, way-told}
 use Rattle.door.proofs.Rounds.{all-go-inside}
 
@@ -71,12 +70,12 @@ module _ (high number wanted : ℕ) (regs : List ℕ) (past : List Call) where
     waiting w lo hi t = phase-waits (sound .machine .arms w) (subst T (phase-shown now (sound .machine) (sound .mirror) P.W w lo (let z = sound .arms-are in omega arith)) t)
 
     -- the bit that a waiting arm read is its side
-    bit-is : (w : ℕ) → 1 ≤ w → w ≤ n → T (is-in P.W now w) → (sd : Bool) → Waiting sd (sound .machine .arms w) → bit-read w start past 0 ≡ bit sd
+    bit-is : (w : ℕ) → 1 ≤ w → w ≤ n → T (is-in P.W now w) → (sd : Bool) → Waiting sd (sound .machine .arms w) → bit-read w start past ≡ bit sd
     bit-is w lo hi t sd v =
         let read = read-run w n lo hi past start 0 (record { sound = made-sound high number wanted regs some; reads = λ t h. absurd h }) in
         let z = sound .mirror .size in
         let e = sound .arms-are in
-        some-once _ _ (sym (read-side w n lo hi now (bit-read w start past 0) read t) ∙ (sound .mirror .shows w lo (omega arith) .sided ∙ ap (λ a. as-bit (side a)) (v .2)))
+        some-once _ _ (sym (read-side w n lo hi now (bit-read w start past) read t) ∙ (sound .mirror .shows w lo (omega arith) .sided ∙ ap (λ a. as-bit (side a)) (v .2)))
 
     -- two arms with the same side are free to go together; of two with different sides one only
     both-free : (t v : Bool) → T (same t v) → Free (sound .machine .group) (sound .machine .arms) t → Free (sound .machine .group) (sound .machine .arms) v
@@ -101,7 +100,7 @@ module _ (high number wanted : ℕ) (regs : List ℕ) (past : List Call) where
         none-twice false h = absurd h
 
     alike : (u w : ℕ) → 1 ≤ u → u ≤ n → T (is-in P.W now u) → 1 ≤ w → w ≤ n → T (is-in P.W now w)
-        → (RightOfWay now u ↔ RightOfWay now w) ↔ (bit-read u start past 0 ≡ bit-read w start past 0)
+        → (RightOfWay now u ↔ RightOfWay now w) ↔ (bit-read u start past ≡ bit-read w start past)
     alike u w ulo uhi ut wlo whi wt =
         let a = waiting u ulo uhi ut in
         let b = waiting w wlo whi wt in
@@ -124,11 +123,11 @@ module _ (high number wanted : ℕ) (regs : List ℕ) (past : List Call) where
     counting : (w b : ℕ) (wlo : 1 ≤ w) (whi : w ≤ n) (blo : 1 ≤ b) (bhi : b ≤ n) → Past w b n wlo whi blo bhi start 0 false
     counting w b wlo whi blo bhi = record { sound = made-sound high number wanted regs some; rules = λ k. tt; counted = λ s e. absurd (let z : _≡_ {A = ℕ} 0 1 = cc in omega arith) }
 
-    bound : (w b : ℕ) → 1 ≤ w → w ≤ n → 1 ≤ b → b ≤ n → T (is-in P.W now w) → (entries-since w b start past 0 ≤ 2) × (T (idle-then w b start past false) → entries-since w b start past 0 ≤ 1)
+    bound : (w b : ℕ) → 1 ≤ w → w ≤ n → 1 ≤ b → b ≤ n → T (is-in P.W now w) → (entries-since w b start past ≤ 2) × (T (idle-then w b start past) → entries-since w b start past ≤ 1)
     bound w b wlo whi blo bhi t = past-bound w b n wlo whi blo bhi now _ _ (past-run w b n wlo whi blo bhi past start 0 false (counting w b wlo whi blo bhi)) t
 
     row-now : (w b : ℕ) (wlo : 1 ≤ w) (whi : w ≤ n) (blo : 1 ≤ b) (bhi : b ≤ n)
-        → Row w b n wlo whi blo bhi (arms-few high (length regs) wanted) (arm-at now w) (entries-since w b start past 0) (idle-then w b start past false)
+        → Row w b n wlo whi blo bhi (arms-few high (length regs) wanted) (arm-at now w) (entries-since w b start past) (idle-then w b start past)
     row-now w b wlo whi blo bhi =
         let few = arms-few high (length regs) wanted in
         let e : arm-at start w ≡ fresh = getD-replicate arm-limit (w - 1) fresh no-arm (omega arith) in

@@ -1,19 +1,19 @@
 -- An arm that is free to go has right of way.
-use Prim.Native.Nat.{ℕ, _+_, _*_, _≤_}
-use mathlib.Core.Path.{_≡_, refl, sym, ap, subst, _∙_}
-use mathlib.Core.Bool.{Bool, true, false, not, _&&_, cond}
-use mathlib.Core.Logic.{_≢_, _⊎_, inl, inr, ⊎-elim}
+use Prim.Native.Nat.{ℕ, _≤_}
+use mathlib.Core.Path.{_≡_, sym, ap, subst, _∙_}
+use mathlib.Core.Bool.{Bool, false, not, _&&_, cond}
+use mathlib.Core.Logic.{_⊎_, inl, inr, ⊎-elim}
 use mathlib.Core.List.{List, [], _∷_}
 use native.Mathlib.Omega.{arith}
 use lib.Dec.{T, eqb, eqb→eq, eqb-refl}
 use Rattle.std.proofs.shelf.Tests.{cases-eq}
 use Rattle.door.specs.States.{State}
 use Rattle.door.specs.Calls.{after}
-use Rattle.door.specs.History.{is-in, steps, moves, goes-inside, GoesInside, steps-in, NoOtherInDoorway, RightOfWay}
+use Rattle.door.specs.History.{steps, moves, goes-inside, GoesInside, steps-in, NoOtherInDoorway, RightOfWay}
 use Rattle.door.specs.declared.call.Call.{Call}
 use Rattle.door.specs.declared.position.Phase.the-variants as P
 use Rattle.door.proofs.Bools.{none-of, and-T, is-false}
-use Rattle.door.proofs.Machine.{Machine, Move, step, is-step, waits, at, allowed, moved}
+use Rattle.door.proofs.Machine.{Machine, Move, step, is-step, at, allowed, moved}
 use Rattle.door.proofs.Invariant.{Free, Inv, inv-moved}
 use Rattle.door.proofs.Waiting.{Waiting, only-steps, index-in, move-out}
 use Rattle.door.proofs.WayRank.{needs, free-after, needs-other, needs-mine, needs-some, needs-bound}

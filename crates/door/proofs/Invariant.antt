@@ -1,7 +1,7 @@
 -- The invariant of the machine: who is inside, and what a waiting arm has passed.
-use Prim.Native.Nat.{ℕ, _+_, _≤_, _<_}
-use mathlib.Core.Path.{_≡_, refl, sym, ap, subst, _∙_}
-use mathlib.Core.Bool.{Bool, true, false, not, cond}
+use Prim.Native.Nat.{ℕ, _+_, _≤_}
+use mathlib.Core.Path.{_≡_, refl, sym, subst}
+use mathlib.Core.Bool.{Bool, true, false, not}
 use mathlib.Core.Logic.{_≢_, _⊎_, inl, inr, ⊎-elim}
 use native.Mathlib.Omega.{arith}
 use lib.Dec.{T, eqb, eqb→eq, ltb, ltb→lt, nltb→le}
@@ -343,8 +343,3 @@ inv-moved g inv step i lo hi = ⊎-elim
     (λ x. inv-turn g inv i (g .arms i) refl x lo hi)
     (λ d. subst (λ b. Inv (moved-to g b i (step-arm (g .n) (g .group) (g .arms) (g .arms i)))) (sym (turn-same step (g .group) (g .arms i) d)) (inv-still g inv step i lo hi d))
     (test (at-x1 (g .arms i)))
-
--- the entry rule: an arm that goes inside is free to
-pub entry : (g : Machine) → Inv g → (i : ℕ) (s : Bool) (j : ℕ) (p : Place) (t o : Bool) → g .arms i ≡ waits s j p → step-waiting (g .n) (g .group) (g .arms j) s j p ≡ inside t o → Free (g .group) (g .arms) t
-entry g inv i s j p t o e q =
-    subst (λ y. Own (g .n) (g .group) (g .arms) y) q (wait-own (g .n) (g .group) (g .arms) (inv .range) s j p (subst (λ y. Own (g .n) (g .group) (g .arms) y) e (inv .own i)))

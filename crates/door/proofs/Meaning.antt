@@ -11,7 +11,7 @@ use Rattle.std.proofs.shelf.Tests.{cases-eq}
 use Rattle.door.specs.Tallies.{same-phase}
 use Rattle.door.specs.declared.position.Phase.{Phase}
 use Rattle.door.specs.declared.position.Phase.the-variants as P
-use Rattle.door.proofs.Bools.{same, same-refl, same-sym, same-trans, same-other, same-not, same-swap, same-clash, test, clash, none-of, and-T, by, ne-test}
+use Rattle.door.proofs.Bools.{same, same-refl, same-sym, same-trans, same-other, same-not, same-swap, same-clash, test, and-T, by, ne-test}
 
 -- an arm: I; D before it reads the bit; D with a side; W; F; X before and after the first exit step
 pub data Stage : Type 0 where
@@ -43,7 +43,7 @@ at p a = same-phase (phase a) p
 abbrev pub Free : Bool → (ℕ → Stage) → Bool → Type 0
 Free bit arms t = (k : ℕ) → T (has (not t) (arms k)) → T (same bit (not t))
 
--- what a call can do to its arm and the bit
+-- what a call can do to its arm and the bit: the phases in their order, and the bit read once in each doorway
 pub data Goes (bit : Bool) (arms : ℕ → Stage) : Stage → Stage → Bool → Type 0 where
   rests : {a : Stage} → Goes bit arms a a bit
   begins : Goes bit arms resting coming bit
@@ -58,6 +58,7 @@ pub record Meaning : Type 0 where
   pub bit : Bool
   pub arms : ℕ → Stage
 
+-- a call of arm i: no other arm's phase or side is altered
 pub record Change (m m′ : Meaning) (i : ℕ) : Type 0 where
   pub goes : Goes (m .bit) (m .arms) (m .arms i) (m′ .arms i) (m′ .bit)
   pub frame : (k : ℕ) → k ≢ i → m′ .arms k ≡ m .arms k
@@ -72,17 +73,7 @@ Own bit arms (inside t) = Free bit arms t
 Own bit arms (leaving t) = Free bit arms t
 Own bit arms (turned t) = T (same bit (not t))
 
--- a side after a call was there, or is the bit
-seen-goes : (bit : Bool) (arms : ℕ → Stage) (a a′ : Stage) (b′ : Bool) → Goes bit arms a a′ b′ → (t : Bool) → T (has t a′) → T (has t a) ⊎ T (same t bit)
-seen-goes bit arms a a′ b′ rests t h = inl h
-seen-goes bit arms a a′ b′ begins t h = absurd h
-seen-goes bit arms a a′ b′ reads t h = inr h
-seen-goes bit arms a a′ b′ ends t h = inl h
-seen-goes bit arms a a′ b′ (enters f) t h = inl h
-seen-goes bit arms a a′ b′ leaves t h = inl h
-seen-goes bit arms a a′ b′ turns t h = inl h
-seen-goes bit arms a a′ b′ quits t h = absurd h
-
+-- facts last while the bit does, and sides come only from it
 keep : (bit : Bool) (arms arms′ : ℕ → Stage) → ((k : ℕ) (t : Bool) → T (has t (arms′ k)) → T (has t (arms k)) ⊎ T (same t bit)) → (a : Stage) → Own bit arms a → Own bit arms′ a
 keep bit arms arms′ seen resting h = tt
 keep bit arms arms′ seen coming h = tt

@@ -2,30 +2,30 @@
 use Prim.Native.Nat.{ℕ, zero, suc, _+_, _*_, _-_, _≤_, _<_}
 use mathlib.Core.Path.{_≡_, refl, sym, ap, subst, _∙_}
 use mathlib.Core.Bool.{Bool, true, false, not, _&&_, cond}
-use mathlib.Core.Logic.{_≢_, _⊎_, inl, inr, ⊎-elim}
+use mathlib.Core.Logic.{_≢_, ⊎-elim}
 use mathlib.Core.List.{List, [], _∷_}
 use native.Mathlib.Omega.{arith}
-use lib.Dec.{T, eqb, leb, ltb, eqb→eq, eqb-refl}
-use lib.ListN.{length, getD, set, replicate}
+use lib.Dec.{T, eqb, leb, ltb}
+use lib.ListN.{length, getD, set}
 use Rattle.std.proofs.shelf.Tests.{cases-eq, cases-lt, cond-both, and-from, cond-true, lt-ltb, le-leb}
 use Rattle.std.proofs.shelf.Lists.{length-set, getD-set-same, getD-set-other, set-past}
 use Rattle.std.specs.declared.option.Option.{Option}
 use Rattle.std.specs.declared.option.Option.the-variants.{Some, None}
 use Rattle.bank.specs.Registers.{written, can-hold}
-use Rattle.door.specs.Positions.{group, choosing-of, mygroup-of, flag-of, phase-of, access-of, value-read, regs-after, read-by, onward, next-place, next-of, side-after, side-of}
+use Rattle.door.specs.Positions.{group, choosing-of, mygroup-of, flag-of, phase-of, access-of, value-read, regs-after, onward, next-place, next-of, side-after, side-of}
 use Rattle.door.specs.Arms.{no-arm, moved as record-moved}
 use Rattle.door.specs.Tallies.{with-row, counted, each, same-phase, past-doorway, row-started, row-cleared, tallied}
 use Rattle.door.specs.States.{State, arm-at, with-table, with-arm}
 use Rattle.door.specs.Calls.{with-visit}
 use Rattle.door.specs.declared.arm.Arm.{Arm}
-use Rattle.door.specs.declared.position.Doorway.the-variants.{D1, D2, D3, D4, D5}
-use Rattle.door.specs.declared.position.Exit.the-variants.{X1, X2}
+use Rattle.door.specs.declared.position.Doorway.the-variants.{D1}
+use Rattle.door.specs.declared.position.Exit.the-variants.{X1}
 use Rattle.door.specs.declared.position.Phase.{Phase}
 use Rattle.door.specs.declared.position.Phase.the-variants as P
 use Rattle.door.specs.declared.position.Place.{Place}
 use Rattle.door.specs.declared.position.Place.the-variants.{W1, W2, W3, W4, W5, W6}
 use Rattle.door.specs.declared.position.Position.{Position}
-use Rattle.door.specs.declared.position.Position.the-variants.{Idle, Doorway, Waiting, Inside, Leaving}
+use Rattle.door.specs.declared.position.Position.the-variants.{Doorway, Leaving}
 use Rattle.door.proofs.Bools.{same}
 use Rattle.door.proofs.Machine.{Stance, idle, d1, d2, d3, d4, d5, waits, inside, x1, x2, position, at, side, out, choosing, mygroup, flag, next, step-waiting, outcome, step-arm, turn-step, begin-arm, admit-arm, leave-arm, may-step, changed, changed-same, changed-other, Machine, moved-to}
 use Rattle.door.proofs.Invariant.{Own}

@@ -1,23 +1,22 @@
 -- How often an arm went inside past one that waits, over every history.
 use Prim.Native.Nat.{ℕ, _+_, _≤_}
 use mathlib.Core.Path.{_≡_, refl, sym, ap, subst, _∙_}
-use mathlib.Core.Bool.{Bool, true, false, not, _&&_, cond}
-use mathlib.Core.Logic.{_≢_, _⊎_, inl, inr, ⊎-elim}
+use mathlib.Core.Bool.{Bool, true, false, _&&_, cond}
+use mathlib.Core.Logic.{⊎-elim}
 use mathlib.Core.List.{List, [], _∷_}
 use native.Mathlib.Omega.{arith}
 use lib.Dec.{T, eqb, eqb-refl}
 use Rattle.std.proofs.shelf.Tests.{cases-eq}
-use Rattle.door.specs.Positions.{phase-of}
 use Rattle.door.specs.Tallies.{same-phase}
 use Rattle.door.specs.States.{State}
 use Rattle.door.specs.Calls.{after, run}
-use Rattle.door.specs.History.{is-in, steps, moves, ends-doorway, goes-inside, entries-since, idle-then}
+use Rattle.door.specs.History.{is-in, steps, moves, ends-doorway, goes-inside, count-on, latest-idle}
 use Rattle.door.specs.declared.call.Call.{Call}
 use Rattle.door.specs.declared.position.Phase.{Phase}
 use Rattle.door.specs.declared.position.Phase.the-variants as P
 use Rattle.door.proofs.Bools.{same, and-T, T-and, cond-on}
-use Rattle.door.proofs.Machine.{Stance, idle, waits, at, Move, begin, step, admit, leave, is-step, allowed, changed-other, Machine, moved}
-use Rattle.door.proofs.Invariant.{Inv, inv-moved}
+use Rattle.door.proofs.Machine.{Stance, at, Move, step, is-step, allowed, changed-other, Machine, moved}
+use Rattle.door.proofs.Invariant.{inv-moved}
 use Rattle.door.proofs.Waiting.{only-steps, phase-waits, doorway-steps}
 use Rattle.door.proofs.Mirror.{Mirror}
 use Rattle.door.proofs.Reached.{Came, stays, goes, came, Sound, phase-shown}
@@ -116,7 +115,7 @@ module _ (w b n : ℕ) (wlo : 1 ≤ w) (whi : w ≤ n) (blo : 1 ≤ b) (bhi : b 
   unfolding Next
   past-call s k o past c = went s k o past c (came s (past .sound .machine) (past .sound .mirror) (past .sound .keeps) c)
 
-  pub past-run : (cs : List Call) (s : State) (k : ℕ) (o : Bool) → Past s k o → Past (run s cs) (entries-since w b s cs k) (idle-then w b s cs o)
+  pub past-run : (cs : List Call) (s : State) (k : ℕ) (o : Bool) → Past s k o → Past (run s cs) (count-on w b s cs k) (latest-idle w b s cs o)
   past-run [] s k o h = h
   past-run (c ∷ cs) s k o h = past-run cs (after s c) _ _ (past-call s k o h c)
 

@@ -1,16 +1,16 @@
 -- The potential of a waiting arm: its own rank, and a budget for each other arm.
-use Prim.Native.Nat.{ℕ, zero, suc, _+_, _*_, _-_, _≤_, _<_}
-use mathlib.Core.Path.{_≡_, refl, sym, subst}
-use mathlib.Core.Bool.{Bool, true, false, not, _&&_, cond}
+use Prim.Native.Nat.{ℕ, zero, suc, _+_, _*_, _-_, _≤_}
+use mathlib.Core.Path.{subst}
+use mathlib.Core.Bool.{Bool, true, false, not, cond}
 use mathlib.Core.Logic.{_≢_, ⊎-elim}
 use native.Mathlib.Omega.{arith}
-use lib.Dec.{T, eqb, ltb, ltb→lt, nltb→le}
+use lib.Dec.{T, eqb, ltb, ltb→lt}
 use Rattle.std.proofs.shelf.Tests.{cases-eq}
 use Rattle.door.specs.declared.position.Phase.the-variants as P
 use Rattle.door.specs.declared.position.Place.{Place}
 use Rattle.door.specs.declared.position.Place.the-variants.{W1, W2, W3, W4, W5, W6}
 use Rattle.door.proofs.Bools.{same, same-trans, clash, by}
-use Rattle.door.proofs.Machine.{Stance, idle, d1, d2, d3, d4, d5, waits, inside, x1, x2, at, has, out, choosing, mygroup, flag, next, step-waiting, outcome, step-arm, begin-arm, admit-arm, leave-arm, turn-step, Move, begin, step, admit, leave, act, turn, may-step, allowed, changed, Machine, moved-to}
+use Rattle.door.proofs.Machine.{Stance, idle, d1, d2, d3, d4, d5, waits, inside, x1, x2, at, has, choosing, mygroup, flag, next, step-waiting, outcome, step-arm, begin-arm, admit-arm, leave-arm, turn-step, Move, begin, step, admit, leave, act, turn, may-step, allowed, Machine}
 
 abbrev pub place-cost : Place → ℕ
 place-cost W1 = 35

@@ -1,24 +1,23 @@
 -- Every call is a move of the machine or nothing that it sees; so every history of a gate mirrors a run of the machine.
-use Prim.Native.Nat.{ℕ, zero, suc, _+_, _*_, _-_, _≤_, _<_}
+use Prim.Native.Nat.{ℕ, zero, suc, _+_, _-_, _≤_, _<_}
 use mathlib.Core.Path.{_≡_, refl, sym, ap, subst, _∙_}
 use mathlib.Core.Bool.{Bool, true, false, not, _&&_, cond}
-use mathlib.Core.Logic.{_≢_, _⊎_, inl, inr, ⊎-elim}
 use mathlib.Core.List.{List, [], _∷_, _++_}
 use native.Mathlib.Omega.{arith}
 use lib.Dec.{T, eqb, eqb-refl, leb, leb→le}
 use lib.ListN.{length, getD, replicate, take, drop}
-use Rattle.std.proofs.shelf.Tests.{eqb-true, cond-false, ne-eqb, le-leb, and-from}
+use Rattle.std.proofs.shelf.Tests.{cond-false, ne-eqb, le-leb}
 use Rattle.std.proofs.shelf.Lists.{getD-replicate, length-replicate, getD-append-left, take-more}
 use Rattle.std.specs.declared.option.Option.{Option}
 use Rattle.std.specs.declared.option.Option.the-variants.{Some, None}
-use Rattle.door.specs.Limits.{arm-limit, visit-limit}
-use Rattle.door.specs.Positions.{group, choosing-of, mygroup-of, flag-of, phase-of, access-of}
+use Rattle.door.specs.Limits.{arm-limit}
+use Rattle.door.specs.Positions.{group, choosing-of, mygroup-of, flag-of, phase-of}
 use Rattle.door.specs.Arms.{fresh, no-arm}
 use Rattle.door.specs.Tallies.{same-phase}
 use Rattle.door.specs.Making.{room, arms-for, cleared, made-regs}
-use Rattle.door.specs.States.{State, made, is-arm, arm-at, phase-at, with-table}
-use Rattle.door.specs.Calls.{begin-refusal, step-refusal, admit-refusal, knows, refusal-of, access-at, arm-after, stepped, done, unless, after, run}
-use Rattle.door.specs.History.{none, moves, steps, step-of, move-of, is-in, goes-inside}
+use Rattle.door.specs.States.{State, made, is-arm, arm-at, phase-at}
+use Rattle.door.specs.Calls.{begin-refusal, step-refusal, admit-refusal, knows, refusal-of, arm-after, stepped, done, unless, after, run}
+use Rattle.door.specs.History.{no-refusal, moves, steps, step-of, move-of, is-in, goes-inside}
 use Rattle.door.specs.declared.call.Call.{Call}
 use Rattle.door.specs.declared.call.Call.the-variants.{Begin, Step, Admit, Confirm, Leave, Look, Tally, Way}
 use Rattle.door.specs.declared.position.Phase.{Phase}
@@ -31,7 +30,7 @@ use Rattle.door.proofs.Bounds.{refused-not, arm-none, for-arm-none}
 use Rattle.door.proofs.Machine.{Stance, idle, position, at, side, out, Move, begin, step, admit, leave, is-step, is-begin, allowed, may-step, Machine, moved}
 use Rattle.door.proofs.Invariant.{Inv, inv-moved}
 use Rattle.door.proofs.Waiting.{Waiting, Entry}
-use Rattle.door.proofs.Mirror.{bit, as-bit, register, Shows, Shown, Mirror, stepped-at, tallied-mirror, step-mirror, begin-mirror, admit-mirror, leave-mirror}
+use Rattle.door.proofs.Mirror.{Mirror, stepped-at, tallied-mirror, step-mirror, begin-mirror, admit-mirror, leave-mirror}
 
 -- what a call comes to, t being the state after it, and mv and st telling whose accepted move and whose accepted step it is
 pub data Came (g : Machine) (t : State) (mv st : ℕ → Bool) : Type 0 where
@@ -84,7 +83,7 @@ module _ (s : State) (g : Machine) (mir : Mirror s g) (inv : Inv g) where
   by-refusal c f = go (refusal-of s c) f
     where
       go : (r : Option Refusal) → (r ≡ None → Came g (done s c) (λ b. move-of b c) (λ b. step-of b c))
-          → Came g (unless r (done s c) s) (λ b. none r && move-of b c) (λ b. none r && step-of b c)
+          → Came g (unless r (done s c) s) (λ b. no-refusal r && move-of b c) (λ b. no-refusal r && step-of b c)
       go None f = f refl
       go (Some x) f = stays mir (λ b. refl) (λ b. refl)
 

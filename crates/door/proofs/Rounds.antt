@@ -1,19 +1,19 @@
 -- Every waiting arm goes inside: its potential falls in each round.
 use Prim.Native.Nat.{ℕ, zero, suc, _+_, _*_, _≤_}
-use mathlib.Core.Path.{_≡_, refl, sym, ap, subst, _∙_}
-use mathlib.Core.Bool.{Bool, true, false, not, _&&_}
-use mathlib.Core.Logic.{_≢_, _⊎_, inl, inr, ⊎-elim}
+use mathlib.Core.Path.{_≡_, sym, subst}
+use mathlib.Core.Bool.{Bool, not}
+use mathlib.Core.Logic.{_⊎_, inl, inr, ⊎-elim}
 use mathlib.Core.List.{List, [], _∷_, _++_}
 use native.Mathlib.Omega.{arith}
 use lib.Dec.{T, eqb, eqb→eq}
 use Rattle.std.proofs.shelf.Tests.{cases-eq}
 use Rattle.door.specs.States.{State}
 use Rattle.door.specs.Calls.{after, run}
-use Rattle.door.specs.History.{steps, moves, goes-inside, GoesInside, Moves, Round, Rounds, is-in}
+use Rattle.door.specs.History.{steps, moves, goes-inside, GoesInside, Moves, Rounds}
 use Rattle.door.specs.declared.call.Call.{Call}
 use Rattle.door.specs.declared.position.Phase.the-variants as P
 use Rattle.door.proofs.Bools.{and-T}
-use Rattle.door.proofs.Machine.{Machine, Move, is-begin, moved, at}
+use Rattle.door.proofs.Machine.{Machine, is-begin, moved}
 use Rattle.door.proofs.Invariant.{Inv, inv-moved}
 use Rattle.door.proofs.Waiting.{Waiting, index-in}
 use Rattle.door.proofs.Potential.{potential}

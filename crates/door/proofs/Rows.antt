@@ -1,5 +1,5 @@
 -- A waiting arm's row and notes are what its history counts.
-use Prim.Native.Nat.{ℕ, zero, suc, min, _+_, _-_, _≤_, _<_}
+use Prim.Native.Nat.{ℕ, min, _+_, _-_, _≤_, _<_}
 use mathlib.Core.Path.{_≡_, refl, sym, ap, subst, _∙_}
 use mathlib.Core.Bool.{Bool, true, false, not, _&&_, cond}
 use mathlib.Core.Logic.{_≢_, _⊎_, inl, inr, ⊎-elim}
@@ -17,7 +17,7 @@ use Rattle.door.specs.Arms.{no-arm}
 use Rattle.door.specs.Tallies.{with-row, counted, each, is-idle, same-phase, past-doorway, row-started, row-cleared, tallied}
 use Rattle.door.specs.States.{State, arm-at, phase-at, with-arm}
 use Rattle.door.specs.Calls.{refusal-of, step-refusal, with-visit, access-at, arm-after, stepped, done, unless, after, run}
-use Rattle.door.specs.History.{none, is-in, step-of, ends-doorway, goes-inside, entries-since, idle-then}
+use Rattle.door.specs.History.{no-refusal, is-in, step-of, ends-doorway, goes-inside, count-on, latest-idle}
 use Rattle.door.specs.declared.arm.Arm.{Arm}
 use Rattle.door.specs.declared.call.Call.{Call}
 use Rattle.door.specs.declared.call.Call.the-variants.{Begin, Step, Admit, Confirm, Leave, Look, Tally, Way}
@@ -28,7 +28,7 @@ use Rattle.door.specs.declared.position.Phase.the-variants as P
 use Rattle.door.specs.declared.position.Position.{Position}
 use Rattle.door.specs.declared.position.Position.the-variants.{Idle, Doorway, Waiting, Inside, Leaving}
 use Rattle.door.specs.declared.refusal.Refusal.{Refusal}
-use Rattle.door.proofs.Bools.{test, clash, none-of, and-T, T-and, by, cond-on, cond-off, is-true, is-false, test-ne}
+use Rattle.door.proofs.Bools.{clash, none-of, and-T, T-and, by, cond-off, is-true, is-false, test-ne}
 use Rattle.door.proofs.Tables.{getD-each}
 use Rattle.door.proofs.Mirror.{tallied-table}
 use Rattle.door.proofs.Reached.{known-arm}
@@ -257,10 +257,10 @@ module _ (w b n : ℕ) (wlo : 1 ≤ w) (whi : w ≤ n) (blo : 1 ≤ b) (bhi : b 
         (cond (st w && (is-in P.D s w && is-in P.W t w)) 0 (cond (st b && (is-in P.W s b && is-in P.F t b)) (k + 1) k))
         (cond (st w && (is-in P.D s w && is-in P.W t w)) (is-in P.I s b) o)
 
-    by-refusal : (c : Call) (k : ℕ) (o : Bool) → Row (arm-at s w) k o → (refusal-of s c ≡ None → Told (done s c) (λ v. step-of v c) k o) → Told (after s c) (λ v. none (refusal-of s c) && step-of v c) k o
+    by-refusal : (c : Call) (k : ℕ) (o : Bool) → Row (arm-at s w) k o → (refusal-of s c ≡ None → Told (done s c) (λ v. step-of v c) k o) → Told (after s c) (λ v. no-refusal (refusal-of s c) && step-of v c) k o
     by-refusal c k o h f = go (refusal-of s c) f
       where
-        go : (x : Option Refusal) → (x ≡ None → Told (done s c) (λ v. step-of v c) k o) → Told (unless x (done s c) s) (λ v. none x && step-of v c) k o
+        go : (x : Option Refusal) → (x ≡ None → Told (done s c) (λ v. step-of v c) k o) → Told (unless x (done s c) s) (λ v. no-refusal x && step-of v c) k o
         go None f = f refl
         go (Some x) f = h
 
@@ -278,7 +278,7 @@ module _ (w b n : ℕ) (wlo : 1 ≤ w) (whi : w ≤ n) (blo : 1 ≤ b) (bhi : b 
         let hi : i ≤ n = let y = r .1 in omega arith in
         ⊎-elim (λ q. subst (λ j. Told (stepped j s) (λ v. eqb j v) k o) (sym q) (own-step k o h)) (λ ne. other-step i (r .0) hi ne k o low h) (cases-eq i w))
 
-  pub row-run : (cs : List Call) (s : State) (k : ℕ) (o : Bool) → Past w b n wlo whi blo bhi s k o → Row (arm-at s w) k o → Row (arm-at (run s cs) w) (entries-since w b s cs k) (idle-then w b s cs o)
+  pub row-run : (cs : List Call) (s : State) (k : ℕ) (o : Bool) → Past w b n wlo whi blo bhi s k o → Row (arm-at s w) k o → Row (arm-at (run s cs) w) (count-on w b s cs k) (latest-idle w b s cs o)
   row-run [] s k o past h = h
   row-run (c ∷ cs) s k o past h =
       let size = past .sound .mirror .size in

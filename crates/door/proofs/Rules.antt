@@ -1,8 +1,8 @@
 -- The machine shows the three rules: every move of it is a change of its meaning.
 use Prim.Native.Nat.{ℕ}
-use mathlib.Core.Path.{_≡_, refl, sym, ap, subst, _∙_}
-use mathlib.Core.Bool.{Bool, true, false, not}
-use mathlib.Core.Logic.{_≢_, _⊎_, ⊎-elim}
+use mathlib.Core.Path.{_≡_, refl, sym, ap, subst}
+use mathlib.Core.Bool.{Bool, not}
+use mathlib.Core.Logic.{⊎-elim}
 use native.Mathlib.Omega.{arith}
 use lib.Dec.{T}
 use Rattle.door.specs.Positions.{phase-of}
@@ -10,7 +10,7 @@ use Rattle.door.specs.declared.position.Place.{Place}
 use Rattle.door.proofs.Machine.{Stance, idle, d1, d2, d3, d4, d5, waits, inside, x1, x2, position, has, step-waiting, step-arm, begin-arm, admit-arm, leave-arm, turn-step, Move, begin, step, admit, leave, act, turn, without-access, changed-same, changed-other, Machine, moved}
 use Rattle.door.proofs.Invariant.{Own, Inv, Free, Ranged, wait-own}
 use Rattle.door.proofs.Waiting.{wait-out}
-use Rattle.door.proofs.Meaning.{Stage, resting, coming, read, waiting, inside as within, leaving, turned, has as stage-has, phase, Goes, rests, begins, reads, ends, enters, leaves, turns, quits, Meaning, Change, Inv as Rules-hold}
+use Rattle.door.proofs.Meaning.{Stage, resting, coming, read, waiting, inside as within, leaving, turned, has as stage-has, phase, Goes, rests, begins, reads, ends, enters, leaves, turns, quits, Meaning, Change}
 
 abbrev pub stage : Stance → Stage
 stage (idle g) = resting

@@ -1,7 +1,7 @@
 -- An arm that waits: what a move makes of it, and when it goes inside.
 use Prim.Native.Nat.{ℕ, zero, suc, _≤_}
 use mathlib.Core.Path.{_≡_, refl, sym, ap, subst, _∙_}
-use mathlib.Core.Bool.{Bool, true, false, not, _&&_}
+use mathlib.Core.Bool.{Bool, false, not}
 use mathlib.Core.Logic.{_≢_, _⊎_, inl, inr, ⊎-elim}
 use native.Mathlib.Omega.{arith}
 use lib.Dec.{T}
@@ -9,7 +9,7 @@ use Rattle.std.proofs.shelf.Tests.{cases-eq}
 use Rattle.door.specs.declared.position.Phase.the-variants as P
 use Rattle.door.specs.declared.position.Place.{Place}
 use Rattle.door.proofs.Bools.{same-refl, test}
-use Rattle.door.proofs.Machine.{Stance, idle, d1, d2, d3, d4, d5, waits, inside, x1, x2, at, has, choosing, step-waiting, outcome, step-arm, Move, begin, step, admit, leave, is-step, act, allowed, changed-same, changed-other, Machine, moved}
+use Rattle.door.proofs.Machine.{Stance, idle, d1, d2, d3, d4, d5, waits, inside, x1, x2, at, has, choosing, step-waiting, outcome, step-arm, Move, begin, step, admit, leave, is-step, allowed, changed-same, changed-other, Machine, moved}
 use Rattle.door.proofs.Invariant.{Free, Own, Inv, wait-own}
 
 abbrev pub Waiting : Bool → Stance → Type 0

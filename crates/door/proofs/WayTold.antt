@@ -1,7 +1,7 @@
 -- An arm is free to go or barred; what way tells is which, and that is right of way.
 use Prim.Native.Nat.{ℕ, zero, suc, _+_, _-_, _≤_, _<_}
 use mathlib.Core.Path.{_≡_, refl, sym, ap, subst, _∙_}
-use mathlib.Core.Bool.{Bool, true, false, not, _&&_, _||_, cond}
+use mathlib.Core.Bool.{Bool, true, false, not}
 use mathlib.Core.Logic.{_≢_, _⊎_, inl, inr, ⊎-elim, _↔_}
 use mathlib.Core.List.{List}
 use native.Mathlib.Omega.{arith}
@@ -17,10 +17,10 @@ use Rattle.door.specs.Calls.{some-side, has-way}
 use Rattle.door.specs.History.{RightOfWay}
 use Rattle.door.specs.declared.arm.Arm.{Arm}
 use Rattle.door.proofs.Bools.{same, same-sym, opposite, differ, test, clash, none-of, or-T, T-or-left, T-or-right}
-use Rattle.door.proofs.Machine.{Machine, Stance, side, is-side, has}
+use Rattle.door.proofs.Machine.{Machine, side, is-side, has}
 use Rattle.door.proofs.Invariant.{Free, Inv}
 use Rattle.door.proofs.Waiting.{Waiting, find}
-use Rattle.door.proofs.Mirror.{bit, as-bit, register, bit-not, bit-same, Mirror}
+use Rattle.door.proofs.Mirror.{bit, as-bit, register, bit-not, bit-same}
 use Rattle.door.proofs.Reached.{Sound}
 use Rattle.door.proofs.HasWay.{free-way}
 use Rattle.door.proofs.Blocked.{no-way}

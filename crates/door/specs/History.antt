@@ -20,12 +20,12 @@ use Rattle.door.specs.declared.position.Phase.{Phase}
 use Rattle.door.specs.declared.position.Phase.the-variants as P
 use Rattle.door.specs.declared.refusal.Refusal.{Refusal}
 
-abbrev pub none : Option Refusal → Bool
-none None = true
-none (Some r) = false
+abbrev pub no-refusal : Option Refusal → Bool
+no-refusal None = true
+no-refusal (Some r) = false
 
 abbrev pub accepted : State → Call → Bool
-accepted s c = none (refusal-of s c)
+accepted s c = no-refusal (refusal-of s c)
 
 -- arm i is in a phase
 abbrev pub is-in : Phase → State → ℕ → Bool
@@ -85,21 +85,30 @@ of-group (Write q v) = false
 abbrev pub reads-group : ℕ → State → Call → Bool
 reads-group w s c = steps w s c && (is-in P.D s w && of-group (access-at s w))
 
--- the bit that w read: the value of register 0 at its latest doorway step that reads it, v if there is none
-abbrev pub bit-read : ℕ → State → List Call → ℕ → ℕ
-bit-read w s [] v = v
-bit-read w s (c ∷ cs) v = bit-read w (after s c) cs (cond (reads-group w s c) (getD (s .regs) group 0) v)
+-- the value of register 0 at w's latest doorway step that reads it, v if there is none
+abbrev pub latest-bit : ℕ → State → List Call → ℕ → ℕ
+latest-bit w s [] v = v
+latest-bit w s (c ∷ cs) v = latest-bit w (after s c) cs (cond (reads-group w s c) (getD (s .regs) group 0) v)
 
--- how often b went inside after w's latest step at D5, k if there is none
-abbrev pub entries-since : ℕ → ℕ → State → List Call → ℕ → ℕ
-entries-since w b s [] k = k
-entries-since w b s (c ∷ cs) k =
-    entries-since w b (after s c) cs (cond (ends-doorway w s c) 0 (cond (goes-inside b s c) (k + 1) k))
+-- how often b went inside after w's latest step at D5, counted on from k
+abbrev pub count-on : ℕ → ℕ → State → List Call → ℕ → ℕ
+count-on w b s [] k = k
+count-on w b s (c ∷ cs) k = count-on w b (after s c) cs (cond (ends-doorway w s c) 0 (cond (goes-inside b s c) (k + 1) k))
 
 -- whether b was idle at w's latest step at D5, o if there is none
-abbrev pub idle-then : ℕ → ℕ → State → List Call → Bool → Bool
-idle-then w b s [] o = o
-idle-then w b s (c ∷ cs) o = idle-then w b (after s c) cs (cond (ends-doorway w s c) (is-in P.I s b) o)
+abbrev pub latest-idle : ℕ → ℕ → State → List Call → Bool → Bool
+latest-idle w b s [] o = o
+latest-idle w b s (c ∷ cs) o = latest-idle w b (after s c) cs (cond (ends-doorway w s c) (is-in P.I s b) o)
+
+-- from the making on: the bit that w read, the entries of b since w ended its doorway, and whether b was idle then
+abbrev pub bit-read : ℕ → State → List Call → ℕ
+bit-read w start past = latest-bit w start past 0
+
+abbrev pub entries-since : ℕ → ℕ → State → List Call → ℕ
+entries-since w b start past = count-on w b start past 0
+
+abbrev pub idle-then : ℕ → ℕ → State → List Call → Bool
+idle-then w b start past = latest-idle w b start past false
 
 -- w goes inside at some call of the list
 abbrev pub GoesInside : ℕ → State → List Call → Type 0

@@ -17,16 +17,16 @@ use Rattle.door.specs.declared.refusal.Refusal.{Refusal}
 -- what holds at the state s of a gate that was start and had the calls of past
 pub record Fair (start : State) (past : List Call) (s : State) : Type 0 where
   -- two waiting arms both have right of way, or neither, exactly if the bits that they read are equal
-  pub alike : (u w : ℕ) → Waits s u → Waits s w → ((RightOfWay s u ↔ RightOfWay s w) ↔ (bit-read u start past 0 ≡ bit-read w start past 0))
+  pub alike : (u w : ℕ) → Waits s u → Waits s w → ((RightOfWay s u ↔ RightOfWay s w) ↔ (bit-read u start past ≡ bit-read w start past))
   -- since a waiting arm ended its doorway each arm went inside at most twice
-  pub twice : (w b : ℕ) → Waits s w → T (is-arm s b) → entries-since w b start past 0 ≤ 2
+  pub twice : (w b : ℕ) → Waits s w → T (is-arm s b) → entries-since w b start past ≤ 2
   -- and at most once if it was idle then
-  pub once : (w b : ℕ) → Waits s w → T (is-arm s b) → T (idle-then w b start past false) → entries-since w b start past 0 ≤ 1
-  -- and it itself never
-  pub itself : (w : ℕ) → Waits s w → entries-since w w start past 0 ≡ 0
+  pub once : (w b : ℕ) → Waits s w → T (is-arm s b) → T (idle-then w b start past) → entries-since w b start past ≤ 1
+  -- and it itself did not
+  pub itself : (w : ℕ) → Waits s w → entries-since w w start past ≡ 0
   -- its row counts just these entries, and its notes say who was idle
-  pub row : (w b : ℕ) → Waits s w → T (is-arm s b) → getD (arm-at s w .row) (b - 1) 0 ≡ entries-since w b start past 0
-  pub notes : (w b : ℕ) → Waits s w → T (is-arm s b) → getD (arm-at s w .notes) (b - 1) false ≡ idle-then w b start past false
+  pub row : (w b : ℕ) → Waits s w → T (is-arm s b) → getD (arm-at s w .row) (b - 1) 0 ≡ entries-since w b start past
+  pub notes : (w b : ℕ) → Waits s w → T (is-arm s b) → getD (arm-at s w .notes) (b - 1) false ≡ idle-then w b start past
   -- a waiting arm goes inside within 50 n + 10 rounds, whatever else is called
   pub rounds : (w : ℕ) → Waits s w → (further : List Call) → Rounds (50 * s .n + 10) s further → GoesInside w s further
   -- what the call way tells of a waiting arm is right of way

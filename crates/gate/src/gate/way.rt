@@ -1,7 +1,7 @@
 ghost use mathlib.Core.Path.{_≡_};
 ghost use Prim.Native.Nat.{_≤_};
 ghost use Rattle.door.specs.Limits.{arm-limit};
-ghost use Rattle.door.specs.Calls.{way-answer, some-side};
+ghost use Rattle.door.specs.Calls.{some-side, has-way, way-answer};
 ghost use Rattle.door.specs.Law.{Law, Tells};
 ghost use Rattle.gate.specs.Whole.{whole};
 use crate::gate::Gate;
@@ -25,7 +25,18 @@ fn some_side(arms: &[Arm; ARM_LIMIT], n: usize, t: u64) -> bool
 }
 
 impl<B: Bank> Gate<B> {
-    // Whether a waiting arm has right of way: the group differs from its side, or no arm has the other side.
+    // The group differs from the arm's side, or no arm has the other side.
+    fn has_way(&self, arm: usize) -> bool
+        requires { ⌜ 1 ≤ arm ⌝ ∗ ⌜ arm ≤ now self .n ⌝ }
+        ensures { λ r. ⌜ r ≡ has-way (whole highest values (now (self .entry))) arm ⌝ }
+    {
+        let record = self.arms[arm - 1];
+        let side = record.side_value();
+        let other = 1u64.saturating_sub(side);
+        self.bit() != side || !some_side(&self.arms, self.n, other)
+    }
+
+    // Whether a waiting arm has right of way.
     pub fn way(&self, arm: usize) -> Result<bool, Refusal>
         ensures answer { λ r. ⌜ r ≡ way-answer (whole highest values (now (self .entry))) arm ⌝ }
         ensures told { λ r. ⌜ Tells (whole highest values (now (self .entry))) arm r ⌝ }
@@ -34,9 +45,6 @@ impl<B: Bank> Gate<B> {
         if let Some(refusal) = self.way_refusal(arm) {
             return Err(refusal);
         }
-        let record = self.arms[arm - 1];
-        let side = record.side_value();
-        let other = 1u64.saturating_sub(side);
-        Ok(self.bit() != side || !some_side(&self.arms, self.n, other))
+        Ok(self.has_way(arm))
     }
 }

@@ -1,7 +1,6 @@
 use mathlib.Core.Path.{_≡_}
-use mathlib.Core.Bool.{Bool, not}
+use mathlib.Core.Bool.{Bool}
 use borrow.Author.Needs.{needs}
-use lib.Dec.{eqb}
 use Rattle.std.specs.declared.result.Result.{Result}
 use Rattle.std.specs.declared.result.Result.the-variants.{Ok, Err}
 use Rattle.door.specs.Calls.{way-answer}
@@ -16,14 +15,8 @@ returns-in-Some g c =
     let e : _≡_ {A = Result Bool Refusal} (Err (c .in-Some .refusal)) (way-answer s (c .args .arm)) = search needs in
     record { answer = e; told = tells-so s (c .args .arm) _ e; law = law s }
 
-pub returns-then-bit-side : need.returns-then-bit-side
-returns-then-bit-side g c =
+pub returns : need.returns
+returns g c =
     let s = whole (g .B·Bank .highest) (g .B·Bank .values) (c .args .self .now) in
-    let e : _≡_ {A = Result Bool Refusal} (Ok (not (eqb (c .bit .result) (c .side-value-side .result)))) (way-answer s (c .args .arm)) = search needs in
-    record { answer = e; told = tells-so s (c .args .arm) _ e; law = law s }
-
-pub returns-else-bit-side : need.returns-else-bit-side
-returns-else-bit-side g c =
-    let s = whole (g .B·Bank .highest) (g .B·Bank .values) (c .args .self .now) in
-    let e : _≡_ {A = Result Bool Refusal} (Ok (not (c .some-side .result))) (way-answer s (c .args .arm)) = search needs in
+    let e : _≡_ {A = Result Bool Refusal} (Ok (c .has-way .result)) (way-answer s (c .args .arm)) = search needs in
     record { answer = e; told = tells-so s (c .args .arm) _ e; law = law s }
