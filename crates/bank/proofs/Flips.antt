@@ -1,24 +1,20 @@
 -- A bit read and a bit turned in a row of two words.
 use Prim.Native.Nat.{ℕ, zero, suc, _+_, _-_, _*_, _/_, _%_, _^_, _<_, _≤_}
 use mathlib.Core.Path.{_≡_, refl, sym, ap, subst, _∙_}
-use mathlib.Core.Bool.{Bool, true, false, cond}
 use mathlib.Core.List.{List}
 use mathlib.Core.Logic.{inl, inr}
 use native.Mathlib.Nat.{div-eq-of-lt, pow-suc, mul-mod-left}
 use native.Mathlib.Omega.{arith}
 use lib.ListN.{length, getD, set}
 use lib.Bits.{bitAnd, bitXor, xor-zero-r}
-use lib.Dec.{ltb, leb}
 use Rattle.std.specs.Finite.{nth}
 use Rattle.std.specs.Iters.{counting}
-use Rattle.std.specs.declared.option.Option.the-variants.{Some, None}
-use Rattle.std.proofs.shelf.Maps.{nth-getD, nth-past}
+use Rattle.std.specs.declared.option.Option.the-variants.{Some}
+use Rattle.std.proofs.shelf.Maps.{nth-getD}
 use Rattle.std.proofs.shelf.Lists.{ext-getD, length-set, getD-set-same, getD-set-other, set-getD}
 use Rattle.std.proofs.shelf.Counted.{length-map-counting, getD-map-counting}
 use Rattle.std.proofs.shelf.Bits.{and-mask, xor-shr, xor-mod, pow-below, pow-pos, pow-add, shl-shr, one-shl, mod-below}
-use Rattle.std.proofs.shelf.Tests.{cases-eq, cases-order, cond-true, cond-false}
-use Rattle.std.proofs.shelf.Ways.{tells}
-use Rattle.bank.specs.Registers.{written, can-hold}
+use Rattle.std.proofs.shelf.Tests.{cases-eq, cases-order}
 use Rattle.bank.specs.Bits.{bits, bit-at}
 
 pub length-bits : (ws : List ℕ) → length (bits ws) ≡ 128
@@ -34,9 +30,6 @@ unfolding bit-at
 read-bit ws i h =
     let l : i < length (bits ws) = omega (arith, length-bits ws) in
     sym (nth-getD (bits ws) i 0 l ∙ ap Some (getD-bits ws i h ∙ sym (and-mask (getD ws (i / 64) 0 / 2 ^ (i % 64)) 1)))
-
-pub no-bit : (ws : List ℕ) (i : ℕ) → 128 ≤ i → None ≡ nth (bits ws) i
-no-bit ws i h = sym (nth-past (bits ws) i (omega (arith, length-bits ws)))
 
 pow-other : (k m : ℕ) → (m ≡ k → ⊥) → 2 ^ k / 2 ^ m % 2 ≡ 0
 pow-other k m d =
@@ -116,12 +109,3 @@ module _ (ws : List ℕ) (i : ℕ) (two : length ws ≡ 2) (h : i < 128) where
   -- the same value leaves all as it is
   pub kept : (v : ℕ) → bit-at ws i ≡ v → bits ws ≡ set (bits ws) i v
   kept v e = sym (ap (set (bits ws) i) (sym (getD-bits ws i h ∙ e)) ∙ set-getD (bits ws) i 0)
-
-  pub holds : (v : ℕ) → v ≤ 1 → can-hold 1 (bits ws) i v ≡ true
-  holds v k = let l = length-bits ws in grind (arith, tells)
-
-pub refused : (ws : List ℕ) (i v : ℕ) → 128 ≤ i → can-hold 1 (bits ws) i v ≡ false
-refused ws i v h = let l = length-bits ws in grind (arith, tells)
-
-pub refused-high : (ws : List ℕ) (i v : ℕ) → 1 < v → can-hold 1 (bits ws) i v ≡ false
-refused-high ws i v h = grind (arith, tells)

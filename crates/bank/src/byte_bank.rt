@@ -1,5 +1,9 @@
 ghost use mathlib.Core.Path.{_≡_};
+ghost use Prim.Native.Nat.{_<_};
 ghost use denote.Ref.{name};
+ghost use lib.ListN.{length};
+ghost use Rattle.std.specs.Finite.{nth};
+ghost use Rattle.std.specs.declared.option.Option.the-variants.{Some};
 use crate::interface::Bank;
 
 // One byte a register, in memory handed to it.
@@ -15,6 +19,14 @@ impl<'a> ByteBank<'a> {
         ensures lent { λ r. ⌜ name (r .bytes) ≡ name (bytes .entry) ⌝ }
     {
         ByteBank { bytes }
+    }
+
+    // The byte of register i.
+    fn byte(&self, i: usize) -> u64
+        requires { ⌜ i < length (now (now self .bytes)) ⌝ }
+        ensures { λ r. ⌜ Some r ≡ nth (now (now (self .entry) .bytes)) i ⌝ }
+    {
+        u64::from(self.bytes[i])
     }
 }
 
@@ -33,7 +45,7 @@ pub impl Bank for ByteBank<'_> as ByteRegisters {
 
     fn read(&self, i: usize) -> Option<u64> {
         if i < self.bytes.len() {
-            Some(u64::from(self.bytes[i]))
+            Some(self.byte(i))
         } else {
             None
         }
