@@ -13,7 +13,7 @@ pub enum Access {
 
 // The value of register i, or 0 where the bank has none.
 pub fn value_at<B: Bank>(bank: &B, i: usize) -> u64
-    ensures { result ≡ slice_index (values bank.now) i }
+    ensures { result ≡ slice_index (B.values bank.now) i }
 {
     match bank.read(i) {
         Some(value) => value,
@@ -24,8 +24,8 @@ pub fn value_at<B: Bank>(bank: &B, i: usize) -> u64
 impl Access {
     // Makes the access, and answers the value read; 0 where none is read.
     pub fn make<B: Bank>(self, bank: &mut B) -> u64
-        ensures value { result ≡ value_read (values bank.old) self }
-        ensures after { values bank.new ≡ regs-after highest (values bank.old) self }
+        ensures value { result ≡ value_read (B.values bank.old) self }
+        ensures after { B.values bank.new ≡ regs-after B.highest (B.values bank.old) self }
     {
         match self {
             Access::Nothing => 0,

@@ -1,5 +1,6 @@
-// The door of a gate: where an arm stands, the one access that it makes there, and where that leads.
-// The model of a whole gate and of its calls, and what follows from it, are in specs/ and proofs/.
+//! The door of a gate: where an arm stands, the one access that it makes there, and where that leads.
+//! The model of a whole gate and of its calls, and what follows from it, are in specs/ and proofs/.
+#![tactic(auto)]
 
 // Where an arm stands, and the one access that it makes there.
 pub mod position;

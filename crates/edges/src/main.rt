@@ -1,6 +1,8 @@
-// Prints how many edge cases are proved. Then plays the schedule files that its arguments name, and prints what came of each:
-// the report or the fault line; whether a byte bank ends in the same text; the fault with one byte too little of memory;
-// whether the orders that were read are written as the same file again.
+//! Prints how many edge cases are proved. Then plays the schedule files that its arguments name, and prints what came of each:
+//! the report or the fault line; whether a byte bank ends in the same text; the fault with one byte too little of memory;
+//! whether the orders that were read are written as the same file again.
+#![tactic(auto)]
+
 mod cases;
 
 use crate::cases::edge_cases;

@@ -1,4 +1,5 @@
-// The fair gate: up to 32 arms step towards a shared section, one register access at a time.
+//! The fair gate: up to 32 arms step towards a shared section, one register access at a time.
+#![tactic(auto)]
 
 // A pass for an arm inside.
 pub mod pass;

@@ -16,7 +16,7 @@ pub(crate) fn registers(n: usize) -> usize
 // Whether the bank has the registers of n arms.
 fn has_room<B: Bank>(bank: &B, n: usize) -> bool
     requires { n ≤ arm-limit }
-    ensures { result ≡ nat_le (room n) (length (values bank.now)) }
+    ensures { result ≡ nat_le (room n) (length (B.values bank.now)) }
 {
     match bank.read(registers(n) - 1) {
         Some(_) => true,
@@ -26,7 +26,7 @@ fn has_room<B: Bank>(bank: &B, n: usize) -> bool
 
 // How many arms a gate over this bank gets.
 pub(crate) fn arm_count<B: Bank>(bank: &B, wanted: usize) -> usize
-    ensures { result ≡ arms-for highest (length (values bank.now)) wanted }
+    ensures { result ≡ arms-for B.highest (length (B.values bank.now)) wanted }
 {
     if B::limit() == 0 {
         return 0;
@@ -40,8 +40,8 @@ pub(crate) fn arm_count<B: Bank>(bank: &B, wanted: usize) -> usize
 
 // Writes 0 to registers 0 to count - 1.
 pub(crate) fn clear<B: Bank>(bank: &mut B, count: usize)
-    requires { count ≤ length (values bank.old) }
-    ensures { values bank.new ≡ cleared count (values bank.old) }
+    requires { count ≤ length (B.values bank.old) }
+    ensures { B.values bank.new ≡ cleared count (B.values bank.old) }
 {
     for i in 0..count {
         let _ = bank.write(i, 0);

@@ -1,5 +1,7 @@
-// Plays a schedule file from standard input on a gate over a bit bank, and prints the report.
-// A file that is not played prints its fault line, and the program ends with status 1.
+//! Plays a schedule file from standard input on a gate over a bit bank, and prints the report.
+//! A file that is not played prints its fault line, and the program ends with status 1.
+#![tactic(auto)]
+
 use anyhow::anyhow;
 use bank::bit_bank::BitBank;
 use play::player::play;

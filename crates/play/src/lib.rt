@@ -1,4 +1,5 @@
-// Plays a schedule file on a gate and reports what came of it.
+//! Plays a schedule file on a gate and reports what came of it.
+#![tactic(auto)]
 
 // The service byte, held at 1 during a play.
 pub mod service;

@@ -26,8 +26,8 @@ pub struct Played<B> {
 
 // Admits an arm and lets it leave at once; the refusal, if any.
 fn leave_at_once<B: Bank>(gate: &mut Gate<B>, arm: usize) -> Option<Refusal>
-    ensures answer { result ≡ refusal-of (whole highest values gate.old) (Admit arm) }
-    ensures after { whole highest values gate.new ≡ left_at_once (whole highest values gate.old) arm }
+    ensures answer { result ≡ refusal-of (whole B.highest B.values gate.old) (Admit arm) }
+    ensures after { whole B.highest B.values gate.new ≡ left_at_once (whole B.highest B.values gate.old) arm }
 {
     match gate.admit(arm) {
         Ok(pass) => match gate.leave(pass) {
@@ -50,8 +50,8 @@ fn refusal(answer: Result<Phase, Refusal>) -> Option<Refusal>
 
 // Obeys one order, unless the gate refuses it.
 fn obey<B: Bank>(gate: &mut Gate<B>, order: Order) -> Option<Refusal>
-    ensures answer { result ≡ order-refusal (whole highest values gate.old) order }
-    ensures after { whole highest values gate.new ≡ obeyed (whole highest values gate.old) order }
+    ensures answer { result ≡ order-refusal (whole B.highest B.values gate.old) order }
+    ensures after { whole B.highest B.values gate.new ≡ obeyed (whole B.highest B.values gate.old) order }
 {
     match order {
         Order::Begin(arm) => refusal(gate.begin(usize::from(arm))),
@@ -74,8 +74,8 @@ fn count(refusal: Option<Refusal>) -> usize
 // Obeys the orders of a file that was checked, and answers how many the gate refused.
 fn obey_all<B: Bank>(gate: &mut Gate<B>, file: &[u8], heading: Heading) -> usize
     requires { Ok heading ≡ heading-of (says file.now) }
-    ensures refused { result ≡ refused-by (says file.now) (whole highest values gate.old) }
-    ensures after { whole highest values gate.new ≡ obeyed-by (says file.now) (whole highest values gate.old) }
+    ensures refused { result ≡ refused-by (says file.now) (whole B.highest B.values gate.old) }
+    ensures after { whole B.highest B.values gate.new ≡ obeyed-by (says file.now) (whole B.highest B.values gate.old) }
 {
     let mut at = match arms_of(file) {
         Ok(first) => first.next,
@@ -110,9 +110,9 @@ fn ready(file: &[u8], room: usize) -> Result<Heading, PlayFault>
 // The guard shows that the service byte reads 1 while this works.
 fn perform<B: Bank>(file: &[u8], bank: B, memory: &mut [u8], guard: &Service) -> Played<B>
     requires { guard.now.byte.now ≡ 1 }
-    ensures answer { result.answer ≡ play-answer highest (values bank) (playable file.now (length memory.old)) }
-    ensures registers { values result.bank ≡ play-regs highest (values bank) (playable file.now (length memory.old)) }
-    ensures report { memory.new ≡ play-memory highest (values bank) memory.old (playable file.now (length memory.old)) }
+    ensures answer { result.answer ≡ play-answer B.highest (B.values bank) (playable file.now (length memory.old)) }
+    ensures registers { B.values result.bank ≡ play-regs B.highest (B.values bank) (playable file.now (length memory.old)) }
+    ensures report { memory.new ≡ play-memory B.highest (B.values bank) memory.old (playable file.now (length memory.old)) }
     ensures fits { Fits result.answer }
 {
     let heading = match ready(file, memory.len()) {
@@ -134,9 +134,9 @@ fn perform<B: Bank>(file: &[u8], bank: B, memory: &mut [u8], guard: &Service) ->
 // Plays a file on gate 0 over a bank, puts the report at the start of the memory, and hands the bank back.
 // The file is checked whole first: a fault leaves bank and memory as they were. The service byte reads 1 meanwhile.
 pub fn play<B: Bank>(file: &[u8], bank: B, memory: &mut [u8], service: &mut u8) -> Played<B>
-    ensures answer { result.answer ≡ play-answer highest (values bank) (playable file.now (length memory.old)) }
-    ensures registers { values result.bank ≡ play-regs highest (values bank) (playable file.now (length memory.old)) }
-    ensures report { memory.new ≡ play-memory highest (values bank) memory.old (playable file.now (length memory.old)) }
+    ensures answer { result.answer ≡ play-answer B.highest (B.values bank) (playable file.now (length memory.old)) }
+    ensures registers { B.values result.bank ≡ play-regs B.highest (B.values bank) (playable file.now (length memory.old)) }
+    ensures report { memory.new ≡ play-memory B.highest (B.values bank) memory.old (playable file.now (length memory.old)) }
     ensures fits { Fits result.answer }
     ensures restored { service.new ≡ service.old }
 {

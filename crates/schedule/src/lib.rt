@@ -1,4 +1,5 @@
 //! Schedule files: numbers, orders, the faults of both, and the reader and the writer.
+#![tactic(auto)]
 
 pub mod fault;
 pub mod limit;

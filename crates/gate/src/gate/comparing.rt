@@ -13,8 +13,8 @@ use door::arm::{ARM_LIMIT, Arm};
 
 // Whether the first registers of two banks hold the same values.
 fn same_registers<B: Bank, C: Bank>(a: &B, b: &C, count: usize) -> bool
-    ensures yes { T result → (q : ℕ) → q < count → slice_index (B.Bank.values a.now) q ≡ slice_index (C.Bank.values b.now) q }
-    ensures only { ((q : ℕ) → q < count → slice_index (B.Bank.values a.now) q ≡ slice_index (C.Bank.values b.now) q) → T result }
+    ensures yes { T result → (q : ℕ) → q < count → slice_index (B.values a.now) q ≡ slice_index (C.values b.now) q }
+    ensures only { ((q : ℕ) → q < count → slice_index (B.values a.now) q ≡ slice_index (C.values b.now) q) → T result }
 {
     for i in 0..count {
         if value_at(a, i) != value_at(b, i) {
@@ -42,8 +42,8 @@ fn same_phases(a: &[Arm; ARM_LIMIT], b: &[Arm; ARM_LIMIT], count: usize) -> bool
 
 // Whether two gates have as many arms, the same registers and the same phase letters.
 pub fn same<B: Bank, C: Bank>(a: &Gate<B>, b: &Gate<C>) -> bool
-    ensures yes { T result → Alike (whole B.Bank.highest B.Bank.values a.now) (whole C.Bank.highest C.Bank.values b.now) }
-    ensures only { Alike (whole B.Bank.highest B.Bank.values a.now) (whole C.Bank.highest C.Bank.values b.now) → T result }
+    ensures yes { T result → Alike (whole B.highest B.values a.now) (whole C.highest C.values b.now) }
+    ensures only { Alike (whole B.highest B.values a.now) (whole C.highest C.values b.now) → T result }
 {
     if a.n != b.n {
         return false;

@@ -17,8 +17,8 @@ use door::refusal::Refusal;
 impl<B: Bank> Gate<B> {
     // Begins a visit of an idle arm.
     pub fn begin(&mut self, arm: usize) -> Result<Phase, Refusal>
-        ensures answer { result ≡ answered (refusal-of (whole highest values self.old) (Begin arm)) P.D }
-        ensures after { whole highest values self.new ≡ after (whole highest values self.old) (Begin arm) }
+        ensures answer { result ≡ answered (refusal-of (whole B.highest B.values self.old) (Begin arm)) P.D }
+        ensures after { whole B.highest B.values self.new ≡ after (whole B.highest B.values self.old) (Begin arm) }
     {
         let record = self.may_begin(arm)?;
         self.arms[arm - 1] = Arm {
@@ -31,9 +31,9 @@ impl<B: Bank> Gate<B> {
 
     // Makes the one access of an arm that is neither idle nor inside.
     pub fn step(&mut self, arm: usize) -> Result<Phase, Refusal>
-        ensures answer { result ≡ step-answer (whole highest values self.old) arm }
-        ensures after { whole highest values self.new ≡ after (whole highest values self.old) (Step arm) }
-        ensures one { One-access (whole highest values self.old) arm (whole highest values self.new) }
+        ensures answer { result ≡ step-answer (whole B.highest B.values self.old) arm }
+        ensures after { whole B.highest B.values self.new ≡ after (whole B.highest B.values self.old) (Step arm) }
+        ensures one { One-access (whole B.highest B.values self.old) arm (whole B.highest B.values self.new) }
     {
         self.may_step(arm)?;
         Ok(self.move_on(arm))
@@ -42,8 +42,8 @@ impl<B: Bank> Gate<B> {
     // The access of an arm and its next position, and the rows that tell of it; answers the phase after it.
     fn move_on(&mut self, arm: usize) -> Phase
         requires { (1 ≤ arm) × (arm ≤ self.old.n) }
-        ensures answer { result ≡ phase-of (arm-after (whole highest values self.old) arm).position }
-        ensures after { whole highest values self.new ≡ stepped arm (whole highest values self.old) }
+        ensures answer { result ≡ phase-of (arm-after (whole B.highest B.values self.old) arm).position }
+        ensures after { whole B.highest B.values self.new ≡ stepped arm (whole B.highest B.values self.old) }
     {
         let at = arm - 1;
         let record = self.arms[at];

@@ -19,14 +19,14 @@ overflow-add-count-in-loop-at c = omega (arith, c.loop-at.invariant.0, c.loop-at
 
 pub loop-at-preserved : goal.loop-at-preserved
 loop-at-preserved c =
-    let e = sym c.in-ok-placed.ensures in
-    let h = next-at c.args.file.now c.loop-at.at (c.loop-at.count + 1) c.in-ok-placed.placed e in
-    (omega (arith, h.0, c.loop-at.invariant.0), sym (tally-step c.args.file.now c.loop-at.at c.loop-at.count c.in-ok-placed.placed e) ∙ c.loop-at.invariant.1)
+    let e = sym c.in_ok-placed.ensures in
+    let h = next-at c.args.file.now c.loop-at.at (c.loop-at.count + 1) c.in_ok-placed.placed e in
+    (omega (arith, h.0, c.loop-at.invariant.0), sym (tally-step c.args.file.now c.loop-at.at c.loop-at.count c.in_ok-placed.placed e) ∙ c.loop-at.invariant.1)
 
 pub loop-at-smaller : goal.loop-at-smaller
 loop-at-smaller c =
-    let e = sym c.in-ok-placed.ensures in
-    let h = next-at c.args.file.now c.loop-at.at (c.loop-at.count + 1) c.in-ok-placed.placed e in
+    let e = sym c.in_ok-placed.ensures in
+    let h = next-at c.args.file.now c.loop-at.at (c.loop-at.count + 1) c.in_ok-placed.placed e in
     omega (arith, h.0, h.1)
 
 pub returns : goal.returns

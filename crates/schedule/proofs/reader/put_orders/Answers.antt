@@ -16,12 +16,12 @@ pub loop-i-preserved : goal.loop-i-preserved
 loop-i-preserved c =
     let s = said (says c.args.file.now) c.args.heading c.requires.checked in
     let all = told (says c.args.file.now) in
-    let p = c.in-ok-placed.placed in
-    let n = next-told c.args.file.now c.loop-i.at c.loop-i.i all p c.loop-i.invariant.1 (sym c.in-ok-placed.ensures) in
+    let p = c.in_ok-placed.placed in
+    let n = next-told c.args.file.now c.loop-i.at c.loop-i.i all p c.loop-i.invariant.1 (sym c.in_ok-placed.ensures) in
     (next-put all c.args.orders.now c.loop-i.orders c.loop-i.i p.order c.loop-i.invariant.0 n.1 (omega (arith, s.all, c.loop-i-test.true)) (omega (arith, c.loop-i-test.true, c.requires.room)), n.0)
 
 pub returns : goal.returns
 returns c =
     let s = said (says c.args.file.now) c.args.heading c.requires.checked in
     let d = read_done (says c.args.file.now) c.args.heading c.args.orders.now c.loop-i.orders c.loop-i.i s c.requires.room (omega (arith, c.loop-i.auto.i-end, c.loop-i-test.false)) c.loop-i.invariant.0 in
-    record { answer = refl; memory = d.memory; inverse = was_read c.args.file.now c.args.orders.now c.loop-i.orders (Ok c.args.heading) (λ i. omega (arith, c.type-inv.file i)) d.answer d.memory }
+    record { answer = refl; memory = d.memory; inverse = was_read c.args.file.now c.args.orders.now c.loop-i.orders (Ok c.args.heading) (λ i. omega (arith, c.ok.file i)) d.answer d.memory }

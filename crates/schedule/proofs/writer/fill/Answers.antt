@@ -9,7 +9,7 @@ use Rattle.schedule.proofs.writer.fill.Goals as goal
 
 pub loop-i-init : goal.loop-i-init
 loop-i-init c =
-    first-put c.args.arms (group-list c.groups-of.result) c.args.out.now c.put-at.new.out c.put-at.result c.groups-of.ensures c.put-at.ensures.end c.put-at.ensures.after
+    first-put c.args.arms (group-list c.groups_of.result) c.args.out.now c.put-at.new.out c.put-at.result c.groups_of.ensures c.put-at.ensures.end c.put-at.ensures.after
 
 -- the number of the order at hand is small
 small : (c : goal.After-number) → c.number.result ≤ largest-number
@@ -25,7 +25,7 @@ groups-of-requires-in-loop-i c = small c
 
 pub put-at-requires-in-loop-i : goal.put-at-requires-in-loop-i
 put-at-requires-in-loop-i c =
-    let n = next-length c.args.arms c.args.orders.now c.loop-i.i c.number.result c.loop-i.at (group-list c.groups-of-in-loop-i.result) c.loop-i-test.true c.number.ensures c.groups-of-in-loop-i.ensures c.loop-i.invariant.0 in
+    let n = next-length c.args.arms c.args.orders.now c.loop-i.i c.number.result c.loop-i.at (group-list c.groups_of-in-loop-i.result) c.loop-i-test.true c.number.ensures c.groups_of-in-loop-i.ensures c.loop-i.invariant.0 in
     let w = bytes-within c.args.arms c.args.orders.now (c.loop-i.i + 1) in
     omega (arith, n, w, c.loop-i.auto.out, c.requires.room)
 
@@ -34,9 +34,9 @@ loop-i-preserved c =
     let os = c.args.orders.now in
     let k = c.number.result in
     let at = c.loop-i.at in
-    let G = group-list c.groups-of-in-loop-i.result in
-    let n = next-length c.args.arms os c.loop-i.i k at G c.loop-i-test.true c.number.ensures c.groups-of-in-loop-i.ensures c.loop-i.invariant.0 in
-    let m = next-memory c.args.arms os c.loop-i.i k at G c.loop-i-test.true c.number.ensures c.groups-of-in-loop-i.ensures c.loop-i.invariant.0 c.put-at.new.out c.loop-i.out c.loop-i.invariant.1 in (
+    let G = group-list c.groups_of-in-loop-i.result in
+    let n = next-length c.args.arms os c.loop-i.i k at G c.loop-i-test.true c.number.ensures c.groups_of-in-loop-i.ensures c.loop-i.invariant.0 in
+    let m = next-memory c.args.arms os c.loop-i.i k at G c.loop-i-test.true c.number.ensures c.groups_of-in-loop-i.ensures c.loop-i.invariant.0 c.put-at.new.out c.loop-i.out c.loop-i.invariant.1 in (
       c.put-at-in-loop-i.ensures.end ∙ sym n,
       c.put-at-in-loop-i.ensures.after ∙ m
           ∙ ap (λ x. file-bytes c.args.arms (take (c.loop-i.i + 1) os) ++ drop x c.put-at.new.out) (sym c.put-at-in-loop-i.ensures.end),
@@ -45,8 +45,8 @@ loop-i-preserved c =
 pub returns : goal.returns
 returns c =
     let all = take_all c.loop-i.i c.args.orders.now c.loop-i-test.false in
-    let p = last-put c.args.arms c.args.orders.now (group-list c.groups-of.result) c.args.out.now c.put-at.new.out c.loop-i.out c.loop-i.at
-    c.groups-of.ensures
+    let p = last-put c.args.arms c.args.orders.now (group-list c.groups_of.result) c.args.out.now c.put-at.new.out c.loop-i.out c.loop-i.at
+    c.groups_of.ensures
     c.put-at.ensures.after
     (c.loop-i.invariant.0 ∙ ap (λ xs. length (file-bytes c.args.arms xs)) all)
     (c.loop-i.invariant.1 ∙ ap (λ xs. file-bytes c.args.arms xs ++ drop c.loop-i.at c.put-at.new.out) all) in

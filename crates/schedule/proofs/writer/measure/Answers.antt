@@ -7,7 +7,7 @@ use Rattle.schedule.proofs.writer.measure.Goals as goal
 
 pub loop-i-init : goal.loop-i-init
 loop-i-init c =
-    let n : c.width-size.result ≡ length (groups c.args.arms) = c.width-size.ensures ∙ ap length c.groups-of.ensures in
+    let n : c.width-size.result ≡ length (groups c.args.arms) = c.width-size.ensures ∙ ap length c.groups_of.ensures in
     (n ∙ sym (ap length (no_bytes c.args.arms)), refl, omega (arith, groups-short c.args.arms, n))
 
 pub returns-then-number-gt-LARGEST-NUMBER : goal.returns-then-number-gt-LARGEST-NUMBER
@@ -22,11 +22,11 @@ loop-i-preserved c =
     let os = c.args.orders.now in
     let i = c.loop-i.i in
     let k = c.number-number.result in
-    let G = group-list c.groups-of-in-loop-i.result in
-    let n = next-length c.args.arms os i k c.loop-i.size G c.loop-i-test.true c.number-number.ensures c.groups-of-in-loop-i.ensures c.loop-i.invariant.0 in
-    let w : c.width-size-in-loop-i.result ≡ length (groups k) = c.width-size-in-loop-i.ensures ∙ ap length c.groups-of-in-loop-i.ensures in (
+    let G = group-list c.groups_of-in-loop-i.result in
+    let n = next-length c.args.arms os i k c.loop-i.size G c.loop-i-test.true c.number-number.ensures c.groups_of-in-loop-i.ensures c.loop-i.invariant.0 in
+    let w : c.width-size-in-loop-i.result ≡ length (groups k) = c.width-size-in-loop-i.ensures ∙ ap length c.groups_of-in-loop-i.ensures in (
       ap (λ x. c.loop-i.size + x) c.width-size-in-loop-i.ensures ∙ sym n,
-      small-next os i c.loop-i-test.true c.loop-i.invariant.1 (subst (λ x. x ≤ largest-number) c.number-number.ensures c.if-number-gt-LARGEST-NUMBER.false),
+      small-next os i c.loop-i-test.true c.loop-i.invariant.1 (subst (λ x. x ≤ largest-number) c.number-number.ensures c.if-number-gt-LARGEST_NUMBER.false),
       omega (arith, groups-short k, w, c.loop-i.invariant.2),
     )
 
@@ -41,4 +41,4 @@ returns c =
     let os = c.args.orders.now in
     let m = all-measured c.args.arms os c.loop-i.i c.loop-i.size c.loop-i-test.false c.loop-i.invariant.0 c.loop-i.invariant.1 in
     ap Ok m.is
-    ∙ sym (ap length-of (file-whole c.args.arms os (omega arith) (omega arith) m.small (subst (λ n. n ≤ file-limit) m.is c.if-size-gt-FILE-LIMIT.false)))
+    ∙ sym (ap length-of (file-whole c.args.arms os (omega arith) (omega arith) m.small (subst (λ n. n ≤ file-limit) m.is c.if-size-gt-FILE_LIMIT.false)))
