@@ -46,7 +46,7 @@ fn pick(dice: &mut Dice) -> usize
 
 // Carries a reading of an arm inside into the table, and lets the arm go.
 fn deliver<B: Bank>(gate: &mut Gate<B>, arm: usize, k: usize, record: &mut Record)
-    ensures { Called (whole B.highest B.values gate.old) (whole B.highest B.values gate.new) }
+    ensures { Called (whole gate.old) (whole gate.new) }
 {
     match gate.admit(arm) {
         Ok(pass) => {
@@ -66,7 +66,7 @@ fn deliver<B: Bank>(gate: &mut Gate<B>, arm: usize, k: usize, record: &mut Recor
 // Notes that arm k + 1 stepped from one phase to another.
 fn note<B: Bank>(gate: &Gate<B>, k: usize, from: Phase, to: Phase, record: &mut Record)
     requires { k < plant-arms }
-    ensures { «record».new ≡ noted (whole B.highest B.values gate.now) k from to «record».old }
+    ensures { «record».new ≡ noted (whole gate.now) k from to «record».old }
 {
     match (from, to) {
         (Phase::D, Phase::W) => record.waits(k),
@@ -82,7 +82,7 @@ fn note<B: Bank>(gate: &Gate<B>, k: usize, from: Phase, to: Phase, record: &mut 
 // One turn of arm k + 1, whatever its phase asks for.
 fn turn<B: Bank>(gate: &mut Gate<B>, k: usize, dice: &mut Dice, record: &mut Record)
     requires { k < plant-arms }
-    ensures { Called (whole B.highest B.values gate.old) (whole B.highest B.values gate.new) }
+    ensures { Called (whole gate.old) (whole gate.new) }
 {
     let arm = k + 1;
     if let Ok(view) = gate.look(arm) {
@@ -105,7 +105,7 @@ fn turn<B: Bank>(gate: &mut Gate<B>, k: usize, dice: &mut Dice, record: &mut Rec
 
 // A whole day on a new gate. Nothing but calls was made on it, so it is fair.
 fn whole_day<B: Bank>(bank: B, record: &mut Record) -> Gate<B>
-    ensures { Fair-day (made B.highest 7 plant-arms (B.values bank)) (whole B.highest B.values result) }
+    ensures { Fair-day (made B.highest 7 plant-arms (B.values bank)) (whole result) }
 {
     let mut gate = Gate::make(bank, NUMBER, ARMS);
     let mut dice = Dice::new(SEED);

@@ -71,7 +71,7 @@ impl Record {
 
     // Arm k + 1 moved: a round is over once every arm that was not idle at its start has moved.
     pub fn moved<B: Bank>(&mut self, gate: &Gate<B>, k: usize)
-        ensures { self.new ≡ of-arm k (with-move (whole B.highest B.values gate.now) k self.old) self.old }
+        ensures { self.new ≡ of-arm k (with-move (whole gate.now) k self.old) self.old }
     {
         if k >= ARMS {
             return;
@@ -94,7 +94,7 @@ fn is_due(due: &[bool; ARMS]) -> bool
 // Whether the gate has arm k + 1 and it is not idle.
 fn is_busy<B: Bank>(gate: &Gate<B>, k: usize) -> bool
     requires { k < plant-arms }
-    ensures { result ≡ is-busy (whole B.highest B.values gate.now) k }
+    ensures { result ≡ is-busy (whole gate.now) k }
 {
     match gate.look(k + 1) {
         Ok(view) => match view.phase {
@@ -107,7 +107,7 @@ fn is_busy<B: Bank>(gate: &Gate<B>, k: usize) -> bool
 
 // The arms that are not idle.
 fn busy_arms<B: Bank>(gate: &Gate<B>) -> [bool; ARMS]
-    ensures { result ≡ map (is-busy (whole B.highest B.values gate.now)) (range_with_len 0 plant-arms) }
+    ensures { result ≡ map (is-busy (whole gate.now)) (range_with_len 0 plant-arms) }
 {
     [
         is_busy(gate, 0),

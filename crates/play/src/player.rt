@@ -26,8 +26,8 @@ pub struct Played<B> {
 
 // Admits an arm and lets it leave at once; the refusal, if any.
 fn leave_at_once<B: Bank>(gate: &mut Gate<B>, arm: usize) -> Option<Refusal>
-    ensures answer { result ≡ refusal-of (whole B.highest B.values gate.old) (Admit arm) }
-    ensures after { whole B.highest B.values gate.new ≡ left_at_once (whole B.highest B.values gate.old) arm }
+    ensures answer { result ≡ refusal-of (whole gate.old) (Admit arm) }
+    ensures after { whole gate.new ≡ left_at_once (whole gate.old) arm }
 {
     match gate.admit(arm) {
         Ok(pass) => match gate.leave(pass) {
@@ -50,8 +50,8 @@ fn refusal(answer: Result<Phase, Refusal>) -> Option<Refusal>
 
 // Obeys one order, unless the gate refuses it.
 fn obey<B: Bank>(gate: &mut Gate<B>, order: Order) -> Option<Refusal>
-    ensures answer { result ≡ order-refusal (whole B.highest B.values gate.old) order }
-    ensures after { whole B.highest B.values gate.new ≡ obeyed (whole B.highest B.values gate.old) order }
+    ensures answer { result ≡ order-refusal (whole gate.old) order }
+    ensures after { whole gate.new ≡ obeyed (whole gate.old) order }
 {
     match order {
         Order::Begin(arm) => refusal(gate.begin(usize::from(arm))),
@@ -74,8 +74,8 @@ fn count(refusal: Option<Refusal>) -> usize
 // Obeys the orders of a file that was checked, and answers how many the gate refused.
 fn obey_all<B: Bank>(gate: &mut Gate<B>, file: &[u8], heading: Heading) -> usize
     requires { Ok heading ≡ heading-of (says file.now) }
-    ensures refused { result ≡ refused-by (says file.now) (whole B.highest B.values gate.old) }
-    ensures after { whole B.highest B.values gate.new ≡ obeyed-by (says file.now) (whole B.highest B.values gate.old) }
+    ensures refused { result ≡ refused-by (says file.now) (whole gate.old) }
+    ensures after { whole gate.new ≡ obeyed-by (says file.now) (whole gate.old) }
 {
     let mut at = match arms_of(file) {
         Ok(first) => first.next,

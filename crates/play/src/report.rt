@@ -71,7 +71,7 @@ pub fn fault_line(fault: PlayFault, memory: &mut [u8]) -> Result<usize, PlayFaul
 // What look tells of an arm that the gate has.
 fn seen<B: Bank>(gate: &Gate<B>, arm: usize) -> View
     requires { (1 ≤ arm) × (arm ≤ gate.now.n) }
-    ensures { result ≡ view_of (arm_at (whole B.highest B.values gate.now) arm) }
+    ensures { result ≡ view_of (arm_at (whole gate.now) arm) }
 {
     match gate.look(arm) {
         Ok(view) => view,
@@ -82,7 +82,7 @@ fn seen<B: Bank>(gate: &Gate<B>, arm: usize) -> View
 // The largest count of the row of an arm that the gate has.
 fn largest<B: Bank>(gate: &Gate<B>, arm: usize) -> u8
     requires { (1 ≤ arm) × (arm ≤ gate.now.n) }
-    ensures { result ≡ largest-count (arm_at (whole B.highest B.values gate.now) arm).row gate.now.n }
+    ensures { result ≡ largest-count (arm_at (whole gate.now) arm).row gate.now.n }
 {
     match gate.most_passed(arm) {
         Ok(most) => most,
@@ -93,7 +93,7 @@ fn largest<B: Bank>(gate: &Gate<B>, arm: usize) -> u8
 // Writes the line of arm k + 1: arm, phase, side, visits and the largest count of its row.
 fn write_arm<B: Bank>(page: &mut Page, gate: &Gate<B>, k: usize)
     requires { (Room page.old 80) × (k < gate.now.n) }
-    ensures added { Added page.old (arm-line (whole B.highest B.values gate.now) k) page.new }
+    ensures added { Added page.old (arm-line (whole gate.now) k) page.new }
     ensures short { page.new.len ≤ page.old.len + 41 }
 {
     let arm = k + 1;
@@ -113,7 +113,7 @@ fn write_arm<B: Bank>(page: &mut Page, gate: &Gate<B>, k: usize)
 // Writes the line on the whole play.
 fn write_first<B: Bank>(page: &mut Page, gate: &Gate<B>, orders: usize, refused: usize)
     requires { Room page.old 200 }
-    ensures added { Added page.old (first-line (whole B.highest B.values gate.now) orders refused) page.new }
+    ensures added { Added page.old (first-line (whole gate.now) orders refused) page.new }
     ensures short { page.new.len ≤ page.old.len + 120 }
 {
     page.text(b"arms ");
@@ -134,8 +134,8 @@ pub fn report<B: Bank>(
     refused: usize,
     memory: &mut [u8],
 ) -> Result<usize, PlayFault>
-    ensures answer { result ≡ text-answer memory.old (report-text (whole B.highest B.values gate.now) orders refused) }
-    ensures after { memory.new ≡ text-memory memory.old (report-text (whole B.highest B.values gate.now) orders refused) }
+    ensures answer { result ≡ text-answer memory.old (report-text (whole gate.now) orders refused) }
+    ensures after { memory.new ≡ text-memory memory.old (report-text (whole gate.now) orders refused) }
 {
     let mut page = Page::new();
     write_first(&mut page, gate, orders, refused);

@@ -12,7 +12,7 @@ use door::call::Call;
 impl<B: Bank> Gate<B> {
     // Makes one call; what it answers is let go, and a pass is known by its number.
     fn carry(&mut self, call: Call)
-        ensures { whole B.highest B.values self.new ≡ after (whole B.highest B.values self.old) call }
+        ensures { whole self.new ≡ after (whole self.old) call }
     {
         match call {
             Call::Begin(arm) => {
@@ -50,8 +50,8 @@ impl<B: Bank> Gate<B> {
 
 // Makes a gate over a bank and carries out the calls, one after another.
 pub fn carry_out<B: Bank>(bank: B, number: u16, wanted: usize, calls: &[Call]) -> Gate<B>
-    ensures state { whole B.highest B.values result ≡ run (made B.highest number wanted (B.values bank)) calls.now }
-    ensures law { Fair (made B.highest number wanted (B.values bank)) calls.now (whole B.highest B.values result) }
+    ensures state { whole result ≡ run (made B.highest number wanted (B.values bank)) calls.now }
+    ensures law { Fair (made B.highest number wanted (B.values bank)) calls.now (whole result) }
 {
     let mut gate = Gate::make(bank, number, wanted);
     for call in calls {

@@ -42,8 +42,8 @@ fn same_phases(a: &[Arm; ARM_LIMIT], b: &[Arm; ARM_LIMIT], count: usize) -> bool
 
 // Whether two gates have as many arms, the same registers and the same phase letters.
 pub fn same<B: Bank, C: Bank>(a: &Gate<B>, b: &Gate<C>) -> bool
-    ensures yes { T result → Alike (whole B.highest B.values a.now) (whole C.highest C.values b.now) }
-    ensures only { Alike (whole B.highest B.values a.now) (whole C.highest C.values b.now) → T result }
+    ensures yes { T result → Alike (whole a.now) (whole b.now) }
+    ensures only { Alike (whole a.now) (whole b.now) → T result }
 {
     if a.n != b.n {
         return false;

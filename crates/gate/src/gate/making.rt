@@ -11,7 +11,7 @@ use door::position::Position;
 impl<B: Bank> Gate<B> {
     // A gate over a bank, which it owns from then on; with the wanted arm count, or as many as there is room for.
     pub fn make(mut bank: B, number: u16, wanted: usize) -> Gate<B>
-        ensures { whole B.highest B.values result ≡ made B.highest number wanted (B.values bank) }
+        ensures { whole result ≡ made B.highest number wanted (B.values bank) }
     {
         let n = arm_count(&bank, wanted);
         if n > 0 {

@@ -17,8 +17,8 @@ use door::refusal::Refusal;
 impl<B: Bank> Gate<B> {
     // Begins a visit of an idle arm.
     pub fn begin(&mut self, arm: usize) -> Result<Phase, Refusal>
-        ensures answer { result ≡ answered (refusal-of (whole B.highest B.values self.old) (Begin arm)) P.D }
-        ensures after { whole B.highest B.values self.new ≡ after (whole B.highest B.values self.old) (Begin arm) }
+        ensures answer { result ≡ answered (refusal-of (whole self.old) (Begin arm)) P.D }
+        ensures after { whole self.new ≡ after (whole self.old) (Begin arm) }
     {
         let record = self.may_begin(arm)?;
         self.arms[arm - 1] = Arm {
@@ -31,9 +31,9 @@ impl<B: Bank> Gate<B> {
 
     // Makes the one access of an arm that is neither idle nor inside.
     pub fn step(&mut self, arm: usize) -> Result<Phase, Refusal>
-        ensures answer { result ≡ step-answer (whole B.highest B.values self.old) arm }
-        ensures after { whole B.highest B.values self.new ≡ after (whole B.highest B.values self.old) (Step arm) }
-        ensures one { One-access (whole B.highest B.values self.old) arm (whole B.highest B.values self.new) }
+        ensures answer { result ≡ step-answer (whole self.old) arm }
+        ensures after { whole self.new ≡ after (whole self.old) (Step arm) }
+        ensures one { One-access (whole self.old) arm (whole self.new) }
     {
         self.may_step(arm)?;
         Ok(self.move_on(arm))
@@ -42,8 +42,8 @@ impl<B: Bank> Gate<B> {
     // The access of an arm and its next position, and the rows that tell of it; answers the phase after it.
     fn move_on(&mut self, arm: usize) -> Phase
         requires { (1 ≤ arm) × (arm ≤ self.old.n) }
-        ensures answer { result ≡ phase-of (arm-after (whole B.highest B.values self.old) arm).position }
-        ensures after { whole B.highest B.values self.new ≡ stepped arm (whole B.highest B.values self.old) }
+        ensures answer { result ≡ phase-of (arm-after (whole self.old) arm).position }
+        ensures after { whole self.new ≡ stepped arm (whole self.old) }
     {
         let at = arm - 1;
         let record = self.arms[at];

@@ -14,8 +14,8 @@ use door::refusal::Refusal;
 impl<B: Bank> Gate<B> {
     // Gives the pass of an arm inside, and marks it as out.
     pub fn admit(&mut self, arm: usize) -> Result<Pass, Refusal>
-        ensures answer { result ≡ admit-answer (whole B.highest B.values self.old) arm }
-        ensures after { whole B.highest B.values self.new ≡ after (whole B.highest B.values self.old) (Admit arm) }
+        ensures answer { result ≡ admit-answer (whole self.old) arm }
+        ensures after { whole self.new ≡ after (whole self.old) (Admit arm) }
     {
         let record = self.may_admit(arm)?;
         self.arms[arm - 1] = Arm {
@@ -32,7 +32,7 @@ impl<B: Bank> Gate<B> {
     // Hands the pass back, with yes if it is of this gate and its arm's pass is out.
     pub fn confirm(&self, pass: Pass) -> (Pass, bool)
         ensures same { result.0 ≡ pass }
-        ensures answer { result.1 ≡ knows (whole B.highest B.values self.now) pass.gate pass.arm }
+        ensures answer { result.1 ≡ knows (whole self.now) pass.gate pass.arm }
     {
         let yes = self.knows(&pass);
         (pass, yes)
@@ -40,8 +40,8 @@ impl<B: Bank> Gate<B> {
 
     // Spends a pass that the gate knows, and sends its arm to the exit. Any other pass is handed back.
     pub fn leave(&mut self, mut pass: Pass) -> Result<Phase, HandedBack>
-        ensures answer { result ≡ leave-answer (whole B.highest B.values self.old) pass }
-        ensures after { whole B.highest B.values self.new ≡ after (whole B.highest B.values self.old) (Leave pass.gate pass.arm) }
+        ensures answer { result ≡ leave-answer (whole self.old) pass }
+        ensures after { whole self.new ≡ after (whole self.old) (Leave pass.gate pass.arm) }
     {
         if !self.knows(&pass) {
             return Err(HandedBack {

@@ -17,14 +17,14 @@ const VISIT_LIMIT: u32 = 1_000_000_000;
 
 impl<B: Bank> Gate<B> {
     pub(crate) fn is_arm(&self, i: usize) -> bool
-        ensures { result ≡ is-arm (whole B.highest B.values self.now) i }
+        ensures { result ≡ is-arm (whole self.now) i }
     {
         i >= 1 && i <= self.n
     }
 
     // The record of an arm that the gate has.
     pub(crate) fn record(&self, i: usize) -> Result<Arm, Refusal>
-        ensures { result ≡ record-for (whole B.highest B.values self.now) (Look i) i }
+        ensures { result ≡ record-for (whole self.now) (Look i) i }
     {
         if !self.is_arm(i) {
             return Err(Refusal::NoArm);
@@ -34,7 +34,7 @@ impl<B: Bank> Gate<B> {
 
     // The record of an arm that may begin.
     pub(crate) fn may_begin(&self, i: usize) -> Result<Arm, Refusal>
-        ensures { result ≡ record-for (whole B.highest B.values self.now) (Begin i) i }
+        ensures { result ≡ record-for (whole self.now) (Begin i) i }
     {
         let arm = self.record(i)?;
         match arm.position.phase() {
@@ -46,7 +46,7 @@ impl<B: Bank> Gate<B> {
 
     // The record of an arm that may step.
     pub(crate) fn may_step(&self, i: usize) -> Result<Arm, Refusal>
-        ensures { result ≡ record-for (whole B.highest B.values self.now) (Step i) i }
+        ensures { result ≡ record-for (whole self.now) (Step i) i }
     {
         let arm = self.record(i)?;
         match arm.position.phase() {
@@ -58,7 +58,7 @@ impl<B: Bank> Gate<B> {
 
     // The record of an arm that may be admitted.
     pub(crate) fn may_admit(&self, i: usize) -> Result<Arm, Refusal>
-        ensures { result ≡ record-for (whole B.highest B.values self.now) (Admit i) i }
+        ensures { result ≡ record-for (whole self.now) (Admit i) i }
     {
         let arm = self.record(i)?;
         match arm.position.phase() {
@@ -70,7 +70,7 @@ impl<B: Bank> Gate<B> {
 
     // The record of an arm that waits.
     pub(crate) fn waits(&self, i: usize) -> Result<Arm, Refusal>
-        ensures { result ≡ record-for (whole B.highest B.values self.now) (Way i) i }
+        ensures { result ≡ record-for (whole self.now) (Way i) i }
     {
         let arm = self.record(i)?;
         match arm.position.phase() {
@@ -81,7 +81,7 @@ impl<B: Bank> Gate<B> {
 
     // Whether the pass is of this gate and its arm's pass is out.
     pub(crate) fn knows(&self, pass: &Pass) -> bool
-        ensures { result ≡ knows (whole B.highest B.values self.now) pass.now.gate pass.now.arm }
+        ensures { result ≡ knows (whole self.now) pass.now.gate pass.now.arm }
     {
         let i = pass.arm;
         if pass.gate != self.number || !self.is_arm(i) {

@@ -26,7 +26,7 @@ fn some_side(arms: &[Arm; ARM_LIMIT], n: usize, t: u64) -> bool
 impl<B: Bank> Gate<B> {
     // The group differs from a side, or no arm has the other side.
     fn is_free(&self, side: u64) -> bool
-        ensures { result ≡ free-for (whole B.highest B.values self.now) side }
+        ensures { result ≡ free-for (whole self.now) side }
     {
         let other = 1u64.saturating_sub(side);
         self.bit() != side || !some_side(&self.arms, self.n, other)
@@ -34,9 +34,9 @@ impl<B: Bank> Gate<B> {
 
     // Whether a waiting arm has right of way.
     pub fn way(&self, arm: usize) -> Result<bool, Refusal>
-        ensures answer { result ≡ way-answer (whole B.highest B.values self.now) arm }
-        ensures told { Tells (whole B.highest B.values self.now) arm result }
-        ensures law { Law (whole B.highest B.values self.now) }
+        ensures answer { result ≡ way-answer (whole self.now) arm }
+        ensures told { Tells (whole self.now) arm result }
+        ensures law { Law (whole self.now) }
     {
         let record = self.waits(arm)?;
         Ok(self.is_free(record.side_value()))

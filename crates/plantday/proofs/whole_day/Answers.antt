@@ -9,5 +9,5 @@ loop-t-preserved g c = c.loop-t.invariant then c.turn.ensures
 
 pub returns : goal.returns
 returns g c =
-    let now = whole g.B.Bank.highest g.B.Bank.values c.loop-t.gate in
+    let now = whole c.loop-t.gate in
     fair-after g.B.Bank.highest 7 6 (g.B.Bank.values c.args.bank) (subst (λ s. Called s now) c.make-gate.ensures c.loop-t.invariant)

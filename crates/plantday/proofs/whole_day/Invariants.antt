@@ -4,4 +4,4 @@ use Rattle.plantday.proofs.whole_day.Given as goal
 
 -- only calls were made on the gate so far
 abbrev pub invariant-loop-t : goal.invariant-loop-t
-invariant-loop-t g l = Called (whole g.B.Bank.highest g.B.Bank.values l.initial.gate) (whole g.B.Bank.highest g.B.Bank.values l.gate)
+invariant-loop-t g l = Called (whole l.initial.gate) (whole l.gate)

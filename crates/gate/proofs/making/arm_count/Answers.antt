@@ -16,15 +16,15 @@ found high len wanted limit n e nz inv here =
 pub loop-n-preserved : goal.loop-n-preserved
 loop-n-preserved g c = (
   omega arith,
-  largest-down (length (g.B.Bank.values c.args.bank.now)) c.loop-n.n c.loop-n-test.true (sym c.if-not-has-room.ensures)
+  largest-down (length (g.B.Bank.values c.args.bank.now)) c.loop-n.n c.loop-n-test.true (sym c.if-not-has_room.ensures)
       ∙ c.loop-n.invariant.1,
 )
 
-pub returns-else-not-has-room : goal.returns-else-not-has-room
-returns-else-not-has-room g c =
+pub returns-else-not-has_room : goal.returns-else-not-has_room
+returns-else-not-has_room g c =
     let len = length (g.B.Bank.values c.args.bank.now) in
     found g.B.Bank.highest len c.args.wanted c.limit.result c.loop-n.n c.limit.ensures c.if-limit-eq0.false c.loop-n.invariant.1
-    (largest-here len c.loop-n.n c.loop-n-test.true (sym c.if-not-has-room.ensures))
+    (largest-here len c.loop-n.n c.loop-n-test.true (sym c.if-not-has_room.ensures))
 
 pub returns-after-loop-n : goal.returns-after-loop-n
 returns-after-loop-n g c =

@@ -8,23 +8,23 @@ use Rattle.play.specs.Playing.{obeyed-all, refusals, order-refusal}
 use Rattle.play.proofs.Orders.{obeyed-more, refusals-more, obeyed-told, refused-told}
 use Rattle.play.proofs.player.obey_all.Goals as goal
 
-pub unreachable-requires-in-Err-order-at : goal.unreachable-requires-in-Err-order-at
-unreachable-requires-in-Err-order-at g c =
+pub unreachable-requires-in-Err-order_at : goal.unreachable-requires-in-Err-order_at
+unreachable-requires-in-Err-order_at g c =
     let file = c.args.file.now in
     let s = said (says file) c.args.heading c.requires in
     let all = told (says c.args.file.now) in
     let left : 0 < length (drop c.loop-i.i (told (says c.args.file.now))) = let d = length-drop c.loop-i.i all in omega (arith, d, s.all, c.loop-i-test.true) in
-    no-fault c.loop-i.at (c.loop-i.i + 1) (drop c.loop-i.at file) (drop c.loop-i.i all) c.in-Err-order-at.field-0 c.loop-i.invariant.0 left (sym c.in-Err-order-at.ensures)
+    no-fault c.loop-i.at (c.loop-i.i + 1) (drop c.loop-i.at file) (drop c.loop-i.i all) c.in-Err-order_at.field-0 c.loop-i.invariant.0 left (sym c.in-Err-order_at.ensures)
 
 pub loop-i-preserved : goal.loop-i-preserved
 loop-i-preserved g c =
     let file = c.args.file.now in
     let all = told (says file) in
     let i = c.loop-i.i in
-    let p = c.in-Ok-order-at.placed in
-    let s = whole g.B.Bank.highest g.B.Bank.values c.loop-i.gate in
-    let t = whole g.B.Bank.highest g.B.Bank.values c.obey.new.gate in
-    let n = next-told file c.loop-i.at i all p c.loop-i.invariant.0 (sym c.in-Ok-order-at.ensures) in
+    let p = c.in-Ok-order_at.placed in
+    let s = whole c.loop-i.gate in
+    let t = whole c.obey.new.gate in
+    let n = next-told file c.loop-i.at i all p c.loop-i.invariant.0 (sym c.in-Ok-order_at.ensures) in
     let moved = c.obey.ensures.after in
     let counted : c.count-refused.result ≡ unless (order-refusal s p.order) 0 1 = c.count-refused.ensures.value ∙ ap (λ r. unless r 0 1) c.obey.ensures.answer in
     let more = refusals-more s t (drop i all) (drop (i + 1) all) p.order n.1 moved in (
@@ -38,13 +38,13 @@ pub returns : goal.returns
 returns g c =
     let file = c.args.file.now in
     let all = told (says file) in
-    let from = whole g.B.Bank.highest g.B.Bank.values c.args.gate.now in
-    let here = whole g.B.Bank.highest g.B.Bank.values c.loop-i.gate in
+    let from = whole c.args.gate.now in
+    let here = whole c.loop-i.gate in
     let s = said (says file) c.args.heading c.requires in
     let none = drop_all c.loop-i.i all (omega (arith, s.all, c.loop-i-test.false)) in
     let no_more = ap (refusals here) none in
     record {
-      refused = let total : c.loop-i.refused ≡ refusals (whole g.B.Bank.highest g.B.Bank.values c.args.gate.now) (told (says c.args.file.now)) = omega (arith, no_more, c.loop-i.invariant.2) in
+      refused = let total : c.loop-i.refused ≡ refusals (whole c.args.gate.now) (told (says c.args.file.now)) = omega (arith, no_more, c.loop-i.invariant.2) in
           total ∙ sym (refused-told (says file) c.args.heading c.requires from);
       after = sym (ap (obeyed-all here) none) ∙ c.loop-i.invariant.3 ∙ sym (obeyed-told (says file) c.args.heading c.requires from);
     }

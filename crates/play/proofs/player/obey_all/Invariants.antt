@@ -9,8 +9,8 @@ use Rattle.play.proofs.player.obey_all.Given as goal
 abbrev pub invariant-loop-i : goal.invariant-loop-i
 invariant-loop-i g l =
     let all = told (says l.file) in
-    let from = whole g.B.Bank.highest g.B.Bank.values l.initial.gate in
-    let here = whole g.B.Bank.highest g.B.Bank.values l.gate in
+    let from = whole l.initial.gate in
+    let here = whole l.gate in
     (orders-from l.at (l.i + 1) (drop l.at l.file) ≡ Ok (drop l.i all))
     × (l.refused ≤ l.i)
     × (l.refused + refusals here (drop l.i all) ≡ refusals from all)

@@ -27,16 +27,16 @@ returns g c =
     let file = c.args.file.now in
     let h = c.in-Ok.heading in
     let g₀ = whole high values c.make-gate.result in
-    let g₁ = whole high values c.obey-all-refused.new.gate in
-    let k = c.obey-all-refused.result in
+    let g₁ = whole high values c.obey_all-refused.new.gate in
+    let k = c.obey_all-refused.result in
     let e = c.in-Ok.ensures in
     let made-is = c.make-gate.ensures ∙ ap (λ n. made high 0 n regs) c.from.ensures in
     let few : c.in-Ok.heading.orders < 2 ^ 64 = search rules in
-    let fewer : c.obey-all-refused.result < 2 ^ 64 = c.obey-all-refused.type-inv in
-    let o = outcome high regs memory file h e g₀ g₁ k made-is c.obey-all-refused.ensures.after c.obey-all-refused.ensures.refused few fewer in
+    let fewer : c.obey_all-refused.result < 2 ^ 64 = c.obey_all-refused.type-inv in
+    let o = outcome high regs memory file h e g₀ g₁ k made-is c.obey_all-refused.ensures.after c.obey_all-refused.ensures.refused few fewer in
     record {
       answer = c.report-answer.ensures.answer ∙ o.answer;
-      registers = ap values c.into-bank.ensures ∙ o.registers;
+      registers = ap values c.into_bank.ensures ∙ o.registers;
       report = c.report-answer.ensures.after ∙ o.report;
       fits = subst Fits (sym c.report-answer.ensures.answer) o.fits;
     }

@@ -10,7 +10,7 @@ returns c =
     (c.text.ensures then reading (ap decimal c.number.ensures) c.number-2.ensures.added
     then c.text-2.ensures then reading (ap decimal c.place.ensures) c.number-3.ensures.added
     then c.text-3.ensures then reading (ap decimal c.order.ensures) c.number-4.ensures.added
-    then c.text-4.ensures then reading (ap layer-word c.layer.ensures) c.write-layer.ensures
+    then c.text-4.ensures then reading (ap layer-word c.layer.ensures) c.write_layer.ensures
     then c.byte.ensures) in
     record {
       answer = c.deliver.ensures.answer ∙ ap (text-answer c.args.memory.now) h.text;

@@ -7,5 +7,5 @@ use Rattle.play.proofs.report.report.Given as goal
 
 abbrev pub invariant-loop-k : goal.invariant-loop-k
 invariant-loop-k g l =
-    Added l.initial.page (lines (arm-line (whole g.B.Bank.highest g.B.Bank.values l.gate)) l.k) l.page
+    Added l.initial.page (lines (arm-line (whole l.gate)) l.k) l.page
     × (l.page.len ≤ l.initial.page.len + 41 * l.k)

@@ -13,7 +13,7 @@ returns g c =
           c.number.ensures.added then c.byte.ensures
           then reading (ap (λ x. x ∷ []) (c.letter.ensures ∙ ap (λ x. letter-of x.phase) v)) c.byte-2.ensures
           then c.byte-3.ensures
-          then reading (ap (λ x. side-text x.side) v) c.write-side.ensures.added
+          then reading (ap (λ x. side-text x.side) v) c.write_side.ensures.added
           then c.byte-4.ensures
           then reading (ap (λ x. decimal x.visits) v) c.number-2.ensures.added
           then c.byte-5.ensures

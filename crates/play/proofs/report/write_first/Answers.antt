@@ -7,7 +7,7 @@ pub returns : goal.returns
 returns g c =
     record {
       added =
-          c.text.ensures then reading (ap decimal c.arm-count.ensures) c.number.ensures.added
+          c.text.ensures then reading (ap decimal c.arm_count.ensures) c.number.ensures.added
           then c.text-2.ensures then c.number-2.ensures.added
           then c.text-3.ensures then c.number-3.ensures.added
           then c.text-4.ensures then reading (ap decimal c.bit.ensures) c.number-4.ensures.added

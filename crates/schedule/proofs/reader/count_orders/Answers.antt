@@ -4,18 +4,18 @@ use Rattle.schedule.proofs.Steps.{next-at}
 use Rattle.schedule.proofs.Told.{count-last, count-fault, tally-step}
 use Rattle.schedule.proofs.reader.count_orders.Goals as goal
 
-pub overflow-add-count : goal.overflow-add-count
-overflow-add-count c = omega (arith, c.loop-at.invariant.0, c.loop-at-test.true)
+pub overflow_add-count : goal.overflow_add-count
+overflow_add-count c = omega (arith, c.loop-at.invariant.0, c.loop-at-test.true)
 
-pub returns-in-err-placed : goal.returns-in-err-placed
-returns-in-err-placed c =
-    let p = err_from_is_err_and c.from-residual.result c.from-residual.ensures.1 in
+pub returns-in_err-placed : goal.returns-in_err-placed
+returns-in_err-placed c =
+    let p = err_from_is_err_and c.from_residual.result c.from_residual.ensures.1 in
     p.1 ∙ ap Err p.2
     ∙ sym
-    (count-fault c.args.file.now c.args.from c.loop-at.at c.loop-at.count c.in-err-placed.field-0.0 c.loop-at-test.true c.loop-at.invariant.1 (sym c.in-err-placed.ensures))
+    (count-fault c.args.file.now c.args.from c.loop-at.at c.loop-at.count c.in_err-placed.field-0.0 c.loop-at-test.true c.loop-at.invariant.1 (sym c.in_err-placed.ensures))
 
-pub overflow-add-count-in-loop-at : goal.overflow-add-count-in-loop-at
-overflow-add-count-in-loop-at c = omega (arith, c.loop-at.invariant.0, c.loop-at-test.true)
+pub overflow_add-count-in-loop-at : goal.overflow_add-count-in-loop-at
+overflow_add-count-in-loop-at c = omega (arith, c.loop-at.invariant.0, c.loop-at-test.true)
 
 pub loop-at-preserved : goal.loop-at-preserved
 loop-at-preserved c =

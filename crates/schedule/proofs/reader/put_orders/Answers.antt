@@ -4,13 +4,13 @@ use Rattle.schedule.proofs.Inverse.{was_read}
 use Rattle.schedule.proofs.Told.{told, said, no-fault, next-told, next-put, read_done}
 use Rattle.schedule.proofs.reader.put_orders.Goals as goal
 
-pub returns-in-err-placed : goal.returns-in-err-placed
-returns-in-err-placed c =
+pub returns-in_err-placed : goal.returns-in_err-placed
+returns-in_err-placed c =
     let s = said (says c.args.file.now) c.args.heading c.requires.checked in
     let all = told (says c.args.file.now) in
     let left : 0 < length (drop c.loop-i.i all) =
     let d = length-drop c.loop-i.i all in omega (arith, d, s.all, c.loop-i-test.true) in
-    absurd (no-fault c.loop-i.at (c.loop-i.i + 1) (drop c.loop-i.at c.args.file.now) (drop c.loop-i.i all) c.in-err-placed.field-0.0 c.loop-i.invariant.1 left (sym c.in-err-placed.ensures))
+    absurd (no-fault c.loop-i.at (c.loop-i.i + 1) (drop c.loop-i.at c.args.file.now) (drop c.loop-i.i all) c.in_err-placed.field-0.0 c.loop-i.invariant.1 left (sym c.in_err-placed.ensures))
 
 pub loop-i-preserved : goal.loop-i-preserved
 loop-i-preserved c =
@@ -24,4 +24,4 @@ pub returns : goal.returns
 returns c =
     let s = said (says c.args.file.now) c.args.heading c.requires.checked in
     let d = read_done (says c.args.file.now) c.args.heading c.args.orders.now c.loop-i.orders c.loop-i.i s c.requires.room (omega (arith, c.loop-i.auto.i-end, c.loop-i-test.false)) c.loop-i.invariant.0 in
-    record { answer = refl; memory = d.memory; inverse = was_read c.args.file.now c.args.orders.now c.loop-i.orders (Ok c.args.heading) (λ i. omega (arith, c.ok.file i)) d.answer d.memory }
+    record { answer = refl; memory = d.memory; inverse = was_read c.args.file.now c.args.orders.now c.loop-i.orders (Ok c.args.heading) (λ i. omega (arith, c.type_inv.file i)) d.answer d.memory }

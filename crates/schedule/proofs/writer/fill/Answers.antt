@@ -17,11 +17,11 @@ small c =
     let s = small-lawful c.args.arms c.args.orders.now c.requires.lawful in
     subst (λ k. k ≤ largest-number) (sym c.number.ensures) (small_at c.args.orders.now c.loop-i.i s c.loop-i-test.true)
 
-pub overflow-cast-number : goal.overflow-cast-number
-overflow-cast-number c = let h = small c in omega arith
+pub overflow_cast-number : goal.overflow_cast-number
+overflow_cast-number c = let h = small c in omega arith
 
-pub groups-of-requires-in-loop-i : goal.groups-of-requires-in-loop-i
-groups-of-requires-in-loop-i c = small c
+pub groups_of-requires-in-loop-i : goal.groups_of-requires-in-loop-i
+groups_of-requires-in-loop-i c = small c
 
 pub put-at-requires-in-loop-i : goal.put-at-requires-in-loop-i
 put-at-requires-in-loop-i c =

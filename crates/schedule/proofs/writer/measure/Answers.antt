@@ -10,12 +10,12 @@ loop-i-init c =
     let n : c.width-size.result ≡ length (groups c.args.arms) = c.width-size.ensures ∙ ap length c.groups_of.ensures in
     (n ∙ sym (ap length (no_bytes c.args.arms)), refl, omega (arith, groups-short c.args.arms, n))
 
-pub returns-then-number-gt-LARGEST-NUMBER : goal.returns-then-number-gt-LARGEST-NUMBER
-returns-then-number-gt-LARGEST-NUMBER c =
+pub returns-then-number-gt-LARGEST_NUMBER : goal.returns-then-number-gt-LARGEST_NUMBER
+returns-then-number-gt-LARGEST_NUMBER c =
     sym
     (ap length-of
     (file-large c.args.arms c.args.orders.now (omega arith) (omega arith)
-    (small-false c.args.orders.now c.loop-i.i c.loop-i-test.true (subst (λ k. largest-number < k) c.number-number.ensures c.if-number-gt-LARGEST-NUMBER.true))))
+    (small-false c.args.orders.now c.loop-i.i c.loop-i-test.true (subst (λ k. largest-number < k) c.number-number.ensures c.if-number-gt-LARGEST_NUMBER.true))))
 
 pub loop-i-preserved : goal.loop-i-preserved
 loop-i-preserved c =
@@ -30,11 +30,11 @@ loop-i-preserved c =
       omega (arith, groups-short k, w, c.loop-i.invariant.2),
     )
 
-pub returns-then-size-gt-FILE-LIMIT : goal.returns-then-size-gt-FILE-LIMIT
-returns-then-size-gt-FILE-LIMIT c =
+pub returns-then-size-gt-FILE_LIMIT : goal.returns-then-size-gt-FILE_LIMIT
+returns-then-size-gt-FILE_LIMIT c =
     let os = c.args.orders.now in
     let m = all-measured c.args.arms os c.loop-i.i c.loop-i.size c.loop-i-test.false c.loop-i.invariant.0 c.loop-i.invariant.1 in
-    sym (ap length-of (file-long c.args.arms os (omega arith) (omega arith) m.small (subst (λ n. file-limit < n) m.is c.if-size-gt-FILE-LIMIT.true)))
+    sym (ap length-of (file-long c.args.arms os (omega arith) (omega arith) m.small (subst (λ n. file-limit < n) m.is c.if-size-gt-FILE_LIMIT.true)))
 
 pub returns : goal.returns
 returns c =

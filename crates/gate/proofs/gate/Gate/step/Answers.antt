@@ -1,5 +1,5 @@
 use Rattle.std.proofs.Common.{Ok, sym, ap, ◌∙◌}
-use Rattle.door.specs.Calls.{refusal-of, after, unless, answered, arm-after, stepped}
+use Rattle.door.specs.Calls.{refusal-of, unless, answered, arm-after, stepped}
 use Rattle.door.specs.Positions.{phase-of}
 use Rattle.door.specs.States.{arm_at}
 use Rattle.door.specs.declared.call.Call.TheVariants.{Step}
@@ -10,13 +10,13 @@ use Rattle.gate.proofs.gate.Gate.step.Goals as goal
 
 pub returns : goal.returns
 returns g c =
-    let state = whole g.B.Bank.highest g.B.Bank.values in
+    let state = whole in
     let s = state c.args.self.now in
     let i = c.args.arm in
-    let none = (accepted-is (refusal-of s (Step i)) (arm_at s i) c.in-ok-may-step.field-0 c.in-ok-may-step.ensures).0 in
-    let e = c.move-on.ensures.after ∙ sym (ap (λ r. unless r (stepped i s) s) none) in
+    let none = (accepted-is (refusal-of s (Step i)) (arm_at s i) c.in_ok-may_step.field-0 c.in_ok-may_step.ensures).0 in
+    let e = c.move_on.ensures.after ∙ sym (ap (λ r. unless r (stepped i s) s) none) in
     record {
-      answer = ap Ok c.move-on.ensures.answer ∙ sym (ap (λ r. answered r (phase-of (arm-after s i).position)) none);
+      answer = ap Ok c.move_on.ensures.answer ∙ sym (ap (λ r. answered r (phase-of (arm-after s i).position)) none);
       after = e;
-      one = one-access s (state c.move-on.new.self) i e;
+      one = one-access s (state c.move_on.new.self) i e;
     }

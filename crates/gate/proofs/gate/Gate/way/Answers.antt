@@ -5,14 +5,14 @@ use Rattle.door.specs.declared.refusal.Refusal.{Refusal}
 use Rattle.door.proofs.Fairness.{law, tells-so}
 use Rattle.gate.proofs.gate.Gate.way.Goals as goal
 
-pub returns-in-err-record : goal.returns-in-err-record
-returns-in-err-record g c =
-    let s = whole g.B.Bank.highest g.B.Bank.values c.args.self.now in
-    let e : ◌≡◌ {A = Result Bool Refusal} c.from-residual.result (way-answer s c.args.arm) = search rules in
+pub returns-in_err-record : goal.returns-in_err-record
+returns-in_err-record g c =
+    let s = whole c.args.self.now in
+    let e : ◌≡◌ {A = Result Bool Refusal} c.from_residual.result (way-answer s c.args.arm) = search rules in
     record { answer = e; told = tells-so s c.args.arm _ e; law = law s }
 
 pub returns : goal.returns
 returns g c =
-    let s = whole g.B.Bank.highest g.B.Bank.values c.args.self.now in
-    let e : ◌≡◌ {A = Result Bool Refusal} (Ok c.is-free.result) (way-answer s c.args.arm) = search rules in
+    let s = whole c.args.self.now in
+    let e : ◌≡◌ {A = Result Bool Refusal} (Ok c.is_free.result) (way-answer s c.args.arm) = search rules in
     record { answer = e; told = tells-so s c.args.arm _ e; law = law s }

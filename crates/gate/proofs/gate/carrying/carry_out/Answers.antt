@@ -11,7 +11,7 @@ use Rattle.gate.proofs.gate.carrying.carry_out.Goals as goal
 
 pub loop-call-preserved : goal.loop-call-preserved
 loop-call-preserved g c =
-    let first = whole g.B.Bank.highest g.B.Bank.values c.make-gate.result in
+    let first = whole c.make-gate.result in
     let call = get_or c.args.calls.now c.loop-call.call-index (Begin 0) in
     c.carry.ensures
     ∙ (ap (λ s. after s call) c.loop-call.invariant ∙ sym (run_more first c.args.calls.now c.loop-call.call-index (Begin 0) c.loop-call-test.true))
@@ -19,7 +19,7 @@ loop-call-preserved g c =
 pub returns : goal.returns
 returns g c =
     let start = made g.B.Bank.highest c.args.number c.args.wanted (g.B.Bank.values c.args.bank) in
-    let now = whole g.B.Bank.highest g.B.Bank.values c.loop-call.gate in
+    let now = whole c.loop-call.gate in
     let e : now ≡ run start c.args.calls.now =
     c.loop-call.invariant ∙ (ap (run _) (take_all c.loop-call.call-index c.args.calls.now c.loop-call-test.false) ∙ ap (λ s. run s c.args.calls.now) c.make-gate.ensures) in
     record { state = e; law = subst (Fair start c.args.calls.now) (sym e) (fair g.B.Bank.highest c.args.number c.args.wanted (g.B.Bank.values c.args.bank) c.args.calls.now) }

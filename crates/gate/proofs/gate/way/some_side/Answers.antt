@@ -7,8 +7,8 @@ use Rattle.door.proofs.Bools.{is_true, T_true}
 use Rattle.door.proofs.way.WayTold.{some_at}
 use Rattle.gate.proofs.gate.way.some_side.Goals as goal
 
-pub returns-then-has-side : goal.returns-then-has-side
-returns-then-has-side c =
+pub returns-then-has_side : goal.returns-then-has_side
+returns-then-has_side c =
     let here : has-side c.args.t (get_or c.args.arms.now c.loop-k.k no_arm).side ≡ true = search rules in
     sym (is_true _ (some_at c.args.t c.args.arms.now c.args.n c.loop-k.k (omega arith) (T_true _ here)))
 

@@ -3,8 +3,8 @@ use Rattle.std.proofs.lemmas.Slice.{overwrites}
 use Rattle.std.proofs.lemmas.List.{places}
 use Rattle.play.proofs.page.Page.text.Goals as goal
 
-pub invariant-of-self : goal.invariant-of-self
-invariant-of-self c = search (rules, places)
+pub invariant_of-self : goal.invariant_of-self
+invariant_of-self c = search (rules, places)
 
 pub returns : goal.returns
 returns c = search (rules, overwrites)
