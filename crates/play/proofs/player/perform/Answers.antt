@@ -26,13 +26,13 @@ returns g c =
     let memory = c.args.memory.now in
     let file = c.args.file.now in
     let h = c.in-Ok.heading in
-    let g₀ = whole high values c.make-gate.result in
-    let g₁ = whole high values c.obey_all-refused.new.gate in
+    let g₀ = whole c.make-gate.result in
+    let g₁ = whole c.obey_all-refused.new.gate in
     let k = c.obey_all-refused.result in
     let e = c.in-Ok.ensures in
     let made-is = c.make-gate.ensures ∙ ap (λ n. made high 0 n regs) c.from.ensures in
     let few : c.in-Ok.heading.orders < 2 ^ 64 = search rules in
-    let fewer : c.obey_all-refused.result < 2 ^ 64 = c.obey_all-refused.type-inv in
+    let fewer : c.obey_all-refused.result < 2 ^ 64 = c.obey_all-refused.type_inv in
     let o = outcome high regs memory file h e g₀ g₁ k made-is c.obey_all-refused.ensures.after c.obey_all-refused.ensures.refused few fewer in
     record {
       answer = c.report-answer.ensures.answer ∙ o.answer;
