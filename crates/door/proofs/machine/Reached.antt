@@ -19,7 +19,7 @@ use Rattle.door.specs.declared.refusal.Refusal.{Refusal}
 use Rattle.door.proofs.Bools.{and_T, T_and, T_true}
 use Rattle.door.proofs.Rooms.{arms-few, arms-fit, length-cleared}
 use Rattle.door.proofs.Accepted.{for-arm-none, begin-none, step-none, admit-none, leave_none, arm_in, known-arm}
-use Rattle.door.proofs.machine.Machine.{Stance, idle, position, at, side, out, Move, begin, step, admit, leave, is-step, is-begin, allowed, may-step, Machine, moved}
+use Rattle.door.proofs.machine.Machine.{Stance, idle, position, at, out, Move, begin, step, admit, leave, is-step, is-begin, allowed, may-step, Machine, moved}
 use Rattle.door.proofs.machine.Invariant.{Inv, inv-moved}
 use Rattle.door.proofs.rounds.Waiting.{Waiting, Entry}
 use Rattle.door.proofs.machine.Mirror.{Mirror, stepped-at, tallied-mirror, step-mirror, begin-mirror, admit-mirror, leave-mirror}
