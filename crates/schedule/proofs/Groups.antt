@@ -2,6 +2,7 @@
 use Rattle.std.proofs.Common.{◌≡◌, ℕ, ◌+◌, ◌*◌, ◌/◌, ◌%◌, ◌<◌, ◌≤◌, ltb, List, [], ◌∷◌, ◌++◌, length, drop, Some, Ok, Err, sym, ap, ◌∙◌, ⊎_elim, arith}
 use Rattle.std.proofs.lemmas.Bool.{cond-true, cond-false, lt-ltb, le-ltb, cond_both, ltb-true, ltb-false, cases_lt, cases_eq}
 use Rattle.std.proofs.lemmas.Bool.Decides.{nat_tests}
+use Rattle.std.proofs.lemmas.List.Elements.{All-nil, All-cons, All-head}
 use Rattle.schedule.specs.declared.order.Order.{Order}
 use Rattle.schedule.specs.declared.order.Order.TheVariants.{Begin, Step, Leave}
 use Rattle.schedule.specs.declared.number.Number.{Number}
@@ -41,8 +42,20 @@ span-of-groups k rest h =
     (λ s. cond-true (ltb k 128) _ _ (lt-ltb k 128 s))
     (λ s. cond-false (ltb (k % 128 + 128) 128) _ _ (le-ltb (k % 128 + 128) 128 (omega arith)))
 
+bytes-more : (b : ℕ) (more : List ℕ) → b < 256 → Bytes more → Bytes (b ∷ more)
+bytes-more b more h t = All-cons (λ x. x < 256) b more h t
+
+bytes-none : Bytes []
+bytes-none = All-nil (λ x. x < 256)
+
+first-byte : (b : ℕ) (more : List ℕ) → Bytes (b ∷ more) → b < 256
+first-byte b more h = All-head (λ x. x < 256) b more h
+
 pub groups-bytes : (k : ℕ) → k ≤ largest-number → Bytes (groups k)
-groups-bytes k h = by_size Bytes k (λ s. (omega arith, tt)) (λ s. (omega arith, (omega arith, tt)))
+groups-bytes k h =
+    by_size Bytes k
+    (λ s. bytes-more k [] (omega arith) bytes-none)
+    (λ s. bytes-more (k % 128 + 128) ((k / 128) ∷ []) (omega arith) (bytes-more (k / 128) [] (omega arith) bytes-none))
 
 pub order-of-number : (o : Order) → order-of (order-number o) ≡ Some o
 order-of-number (Begin arm) = grind (arith, nat_tests)
@@ -111,7 +124,7 @@ groups-of-number place (low ∷ high ∷ rest) n b e =
     (λ h.
     ⊎_elim
     (λ z. let k = two place low high rest s ∙ padded place low high z in absurd (grind arith))
-    (λ z. two-grouped place low high rest n s b.0 h z e)
+    (λ z. two-grouped place low high rest n s (first-byte low (high ∷ rest) b) h z e)
     (cases_eq high 0))
     (λ h. let k = two place low high rest s ∙ large place low high h in absurd (grind arith))
     (cases_lt high 128))

@@ -1,7 +1,7 @@
 -- Reader and writer are inverse.
 use Rattle.std.proofs.Common.{◌≡◌, ℕ, zero, suc, ◌+◌, ◌<◌, ◌≤◌, Bool, true, cond, leb, List, [], ◌∷◌, ◌++◌, length, get_or, take, drop, is_ok, Ok, Err, Decides, Result, sym, refl, ap, ◌∙◌, subst, ⊎_elim, arith, length-drop}
-use Rattle.std.specs.List.{AllByRecursion as All}
-use Rattle.std.proofs.ByRecursion.{All-append, All-drop, All-from_get_or}
+use Rattle.std.specs.List.{All}
+use Rattle.std.proofs.lemmas.List.Elements.{All-nil, All-cons, All-head, All-tail, All-append, All-drop, All-from_get_or}
 use Rattle.std.proofs.lemmas.List.{drop_at, take_at}
 use Rattle.std.proofs.lemmas.Bool.{cond-true, cond-false, cond_both, and_from, and_parts, le-leb, leb-true, cases_Bool, false≢true}
 use Rattle.schedule.specs.declared.order.Order.{Order}
@@ -29,6 +29,15 @@ use Rattle.schedule.proofs.Told.{arms-read, arms_counted, says_past, unpreceded}
 abbrev Near : List Order → Type 0
 Near os = All (λ o. arm-of o ≤ largest-arm) os
 
+near-first : (o : Order) (os : List Order) → Near (o ∷ os) → arm-of o ≤ largest-arm
+near-first o os h = All-head (λ x. arm-of x ≤ largest-arm) o os h
+
+near-rest : (o : Order) (os : List Order) → Near (o ∷ os) → Near os
+near-rest o os h = All-tail (λ x. arm-of x ≤ largest-arm) o os h
+
+near-both : (o : Order) (os : List Order) → arm-of o ≤ largest-arm → Near os → Near (o ∷ os)
+near-both o os h t = All-cons (λ x. arm-of x ≤ largest-arm) o os h t
+
 -- from a list to its file and back
 order-bytes-nil : order-bytes [] ≡ []
 unfolding order-bytes
@@ -53,15 +62,15 @@ orders-read place count (o ∷ os) h =
     let next = place + length (groups k) in
     let p : Placed = record { order = o; next = next } in
     ap (orders-from place count) (order-bytes-cons o os)
-    ∙ orders-step place count bytes p (order-read place count o (order-bytes os) h.0)
+    ∙ orders-step place count bytes p (order-read place count o (order-bytes os) (near-first o os h))
     ∙ ap (λ xs. preceded o (orders-from next (count + 1) xs))
-    (drop_at (groups k) (order-bytes os) (span bytes) (sym (span-of-groups k (order-bytes os) (number-near o h.0))))
-    ∙ ap (preceded o) (orders-read next (count + 1) os h.1)
+    (drop_at (groups k) (order-bytes os) (span bytes) (sym (span-of-groups k (order-bytes os) (number-near o (near-first o os h)))))
+    ∙ ap (preceded o) (orders-read next (count + 1) os (near-rest o os h))
 
 orders_bytes : (os : List Order) → Near os → Bytes (order-bytes os)
 unfolding order-bytes
-orders_bytes [] h = tt
-orders_bytes (o ∷ os) h = All-append (λ b. b < 256) (groups (order-number o)) (order-bytes os) (groups-bytes (order-number o) (number-near o h.0)) (orders_bytes os h.1)
+orders_bytes [] h = All-nil (λ b. b < 256)
+orders_bytes (o ∷ os) h = All-append (λ b. b < 256) (groups (order-number o)) (order-bytes os) (groups-bytes (order-number o) (number-near o (near-first o os h))) (orders_bytes os (near-rest o os h))
 
 arms-back : (arms : ℕ) (rest : List ℕ) → 1 ≤ arms → arms ≤ arm-limit → arms-from (groups arms ++ rest) ≡ Ok (ends arms (0 + length (groups arms)))
 arms-back arms rest l h =
@@ -112,7 +121,7 @@ one-back fuel place count x bytes os p back l b e r =
     let t = back p.next (count + 1) rest (drop 1 os) (omega (arith, d, l, n.2)) (All-drop (λ y. y < 256) (span all) all b) u.0 in
     let os-is : os ≡ p.order ∷ drop 1 os = u.1 in
     record {
-      near = subst Near (sym os-is) (f.0, t.near);
+      near = subst Near (sym os-is) (near-both p.order (drop 1 os) f.0 t.near);
       are =
           f.1 ∙ ap (λ xs. groups (order-number p.order) ++ xs) t.are
           ∙ sym (order-bytes-cons p.order (drop 1 os)) ∙ ap order-bytes (sym os-is);
@@ -121,7 +130,7 @@ one-back fuel place count x bytes os p back l b e r =
 orders-back : (fuel : ℕ) → Back fuel
 orders-back fuel place count [] os l b e =
     let i : [] ≡ os = let k = orders-end place count in cc in
-    subst (Listed []) i (record { near = tt; are = sym order-bytes-nil })
+    subst (Listed []) i (record { near = All-nil (λ o. arm-of o ≤ largest-arm); are = sym order-bytes-nil })
 orders-back zero place count (x ∷ bytes) os l b e = absurd (omega arith)
 orders-back (suc fuel) place count (x ∷ bytes) os l b e =
     by (order_from place count (x ∷ bytes)) refl (λ q k ys zs. orders-back fuel q k ys zs)
@@ -194,15 +203,15 @@ one-file c l file b e = (reads-lawful file b c e).1
 
 -- the writer
 small-near : (os : List Order) → small-orders os ≡ true → Near os
-small-near [] h = tt
+small-near [] h = All-nil (λ o. arm-of o ≤ largest-arm)
 small-near (o ∷ os) h =
     let p = and_parts (leb (order-number o) largest-number) (small-orders os) h in
-    (near-number o (leb-true (order-number o) largest-number p.0), small-near os p.1)
+    near-both o os (near-number o (leb-true (order-number o) largest-number p.0)) (small-near os p.1)
 
 near-small : (os : List Order) → Near os → small-orders os ≡ true
 near-small [] h = refl
 near-small (o ∷ os) h =
-    and_from (leb (order-number o) largest-number) (small-orders os) (le-leb (order-number o) largest-number (number-near o h.0)) (near-small os h.1)
+    and_from (leb (order-number o) largest-number) (small-orders os) (le-leb (order-number o) largest-number (number-near o (near-first o os h))) (near-small os (near-rest o os h))
 
 pub writes-lawful : Writes-lawful
 writes-lawful c = (forth, back)

@@ -1,6 +1,5 @@
 -- Reader and writer are inverse, both ways.
-use Rattle.std.specs.Prelude.{◌≡◌, ℕ, ◌<◌, ◌≤◌, List, length, take, Ok, Err, Result}
-use Rattle.std.specs.List.{AllByRecursion as All}
+use Rattle.std.specs.Prelude.{◌≡◌, ℕ, ◌<◌, ◌≤◌, All, List, length, take, Ok, Err, Result}
 use Rattle.schedule.specs.declared.order.Order.{Order}
 use Rattle.schedule.specs.declared.reader.Heading.{Heading}
 use Rattle.schedule.specs.declared.fault.PlayFault.{PlayFault}
