@@ -3,8 +3,8 @@ use Rattle.std.specs.Prelude.{ℕ, ◌/◌, ◌%◌, ◌^◌, List, map, slice_i
 use Rattle.std.specs.List.{range_with_len}
 
 -- how many registers there are
-abbrev pub bit-registers : ℕ
-bit-registers = 128
+abbrev pub bit_registers : ℕ
+bit_registers = 128
 
 -- register i: the bit of weight 2 ^ (i mod 64) in word i div 64
 unfoldable pub bit_at : List ℕ → ℕ → ℕ
@@ -12,4 +12,4 @@ bit_at words i = (slice_index words (i / 64) / 2 ^ (i % 64)) % 2
 
 -- all registers, from 0 on
 unfoldable pub bits : List ℕ → List ℕ
-bits words = map (bit_at words) (range_with_len 0 bit-registers)
+bits words = map (bit_at words) (range_with_len 0 bit_registers)

@@ -2,9 +2,9 @@
 use Rattle.std.specs.Prelude.{ℕ, Bool, cond, ◌&&◌, List, length, nat_le, nat_lt, slice_set}
 
 -- whether value v may be written to register i, where no register holds more than high
-abbrev pub can-hold : ℕ → List ℕ → ℕ → ℕ → Bool
-can-hold high vs i v = nat_lt i (length vs) && nat_le v high
+abbrev pub can_hold : ℕ → List ℕ → ℕ → ℕ → Bool
+can_hold high vs i v = nat_lt i (length vs) && nat_le v high
 
 -- the values after a write: one replaced, or all as they were
 abbrev pub written : ℕ → List ℕ → ℕ → ℕ → List ℕ
-written high vs i v = cond (can-hold high vs i v) (slice_set vs i v) vs
+written high vs i v = cond (can_hold high vs i v) (slice_set vs i v) vs

@@ -1,6 +1,6 @@
 ghost use Rattle.std.specs.Prelude.{◌≡◌, ◌<◌, ◌≤◌, length, replicate, Some, slice_set};
 ghost use Rattle.std.specs.List.{slice_get};
-ghost use Rattle.bank.specs.Bits.{bits, bit-registers};
+ghost use Rattle.bank.specs.Bits.{bits, bit_registers};
 
 use crate::interface::Bank;
 
@@ -19,14 +19,14 @@ pub struct BitBank {
 impl BitBank {
     // A bank whose registers are all 0.
     pub fn new() -> Self
-        ensures { bits result.words ≡ replicate bit-registers 0 }
+        ensures { bits result.words ≡ replicate bit_registers 0 }
     {
         BitBank { words: [0; 2] }
     }
 
     // How many registers there are.
     fn size(&self) -> usize
-        ensures value { result ≡ bit-registers }
+        ensures value { result ≡ bit_registers }
         ensures length { result ≡ length (bits self.now.words) }
     {
         REGISTERS
@@ -34,7 +34,7 @@ impl BitBank {
 
     // The bit of register i.
     fn bit(&self, i: usize) -> u64
-        requires { i < bit-registers }
+        requires { i < bit_registers }
         ensures { Some result ≡ slice_get (bits self.now.words) i }
     {
         self.words[i / WORD] >> (i % WORD) & 1
@@ -42,7 +42,7 @@ impl BitBank {
 
     // Makes the bit of register i v: it is turned where it differs.
     fn put(&mut self, i: usize, v: u64)
-        requires { (i < bit-registers) × (v ≤ 1) }
+        requires { (i < bit_registers) × (v ≤ 1) }
         ensures { bits self.new.words ≡ slice_set (bits self.old.words) i v }
     {
         let word = self.words[i / WORD];

@@ -1,6 +1,6 @@
 ghost use Rattle.std.specs.Prelude.{◌≡◌, ℕ, List};
 ghost use Rattle.std.specs.List.{slice_get};
-ghost use Rattle.bank.specs.Registers.{can-hold, written};
+ghost use Rattle.bank.specs.Registers.{can_hold, written};
 
 // A bank is a list of register values of fixed length, none above the highest.
 pub trait Bank {
@@ -21,6 +21,6 @@ pub trait Bank {
 
     // Replaces the value of register i and says yes; with an index or a value too high it says no and alters nothing.
     fn write(&mut self, i: usize, v: u64) -> bool
-        ensures answer { result ≡ can-hold highest (values self.old) i v }
+        ensures answer { result ≡ can_hold highest (values self.old) i v }
         ensures after { values self.new ≡ written highest (values self.old) i v };
 }

@@ -11,17 +11,17 @@ pub same_refl : (a : Bool) → T (same a a)
 same_refl true = tt
 same_refl false = tt
 
-pub same-sym : (a b : Bool) → T (same a b) → T (same b a)
-same-sym a b h = grind arith
+pub same_sym : (a b : Bool) → T (same a b) → T (same b a)
+same_sym a b h = grind arith
 
-pub same-trans : (a b c : Bool) → T (same a b) → T (same b c) → T (same a c)
-same-trans a b c h k = grind arith
+pub same_trans : (a b c : Bool) → T (same a b) → T (same b c) → T (same a c)
+same_trans a b c h k = grind arith
 
-pub same-path : (a b : Bool) → T (same a b) → a ≡ b
-same-path true true h = refl
-same-path true false h = absurd h
-same-path false true h = absurd h
-same-path false false h = refl
+pub same_path : (a b : Bool) → T (same a b) → a ≡ b
+same_path true true h = refl
+same_path true false h = absurd h
+same_path false true h = absurd h
+same_path false false h = refl
 
 pub opposite : (a b : Bool) → T (same a b) → T (same (not b) a) → ⊥
 opposite a b h k = grind arith
@@ -29,25 +29,25 @@ opposite a b h k = grind arith
 pub differ : (a b : Bool) → T (not (same a b)) → T (same a (not b))
 differ a b h = grind arith
 
-pub same-other : (a b : Bool) → T (not (same a b)) → T (same (not a) b)
-same-other a b h = grind arith
+pub same_other : (a b : Bool) → T (not (same a b)) → T (same (not a) b)
+same_other a b h = grind arith
 
 same_not : (a b : Bool) → T (same a b) → T (same (not a) (not b))
 same_not a b h = grind arith
 
-pub same-swap : (a b : Bool) → T (same (not a) b) → T (same (not b) a)
-same-swap a b h = grind arith
+pub same_swap : (a b : Bool) → T (same (not a) b) → T (same (not b) a)
+same_swap a b h = grind arith
 
-same-clash : (c a b : Bool) → T (same (not a) b) → T (same c (not a)) → T (same c (not b)) → ⊥
-same-clash c a b h k l = grind arith
+same_clash : (c a b : Bool) → T (same (not a) b) → T (same c (not a)) → T (same c (not b)) → ⊥
+same_clash c a b h k l = grind arith
 
 pub test : (b : Bool) → T b ⊎ T (not b)
 test true = inl tt
 test false = inr tt
 
 -- a bit does not differ from both of two opposite sides, so where it differs from both they are one
-pub sides-agree : (c a b : Bool) → (T (same (not a) b) → T (same c (not a))) → (T (same (not a) b) → T (same c (not b))) → T (same (not a) (not b))
-sides-agree c a b f g = ⊎_elim (same_not a b) (λ d. let o = same-other a b d in absurd (same-clash c a b o (f o) (g o))) (test (same a b))
+pub sides_agree : (c a b : Bool) → (T (same (not a) b) → T (same c (not a))) → (T (same (not a) b) → T (same c (not b))) → T (same (not a) (not b))
+sides_agree c a b f g = ⊎_elim (same_not a b) (λ d. let o = same_other a b d in absurd (same_clash c a b o (f o) (g o))) (test (same a b))
 
 pub clash : (b : Bool) → T b → T (not b) → ⊥
 clash true x y = y
@@ -68,30 +68,30 @@ pub T_and : (a b : Bool) → T a → T b → T (a && b)
 T_and true b h k = k
 T_and false b h k = absurd h
 
-pub or-T : (a b : Bool) → T (a || b) → T a ⊎ T b
-or-T true b h = inl tt
-or-T false b h = inr h
+pub or_T : (a b : Bool) → T (a || b) → T a ⊎ T b
+or_T true b h = inl tt
+or_T false b h = inr h
 
-pub T-or-left : (a b : Bool) → T a → T (a || b)
-T-or-left true b h = tt
-T-or-left false b h = absurd h
+pub T_or_left : (a b : Bool) → T a → T (a || b)
+T_or_left true b h = tt
+T_or_left false b h = absurd h
 
-pub T-or-right : (a b : Bool) → T b → T (a || b)
-T-or-right true b h = tt
-T-or-right false b h = h
+pub T_or_right : (a b : Bool) → T b → T (a || b)
+T_or_right true b h = tt
+T_or_right false b h = h
 
 -- cond by its test, with what the test says
 pub by : {A : Type 0} (P : A → Type 0) (b : Bool) (x y : A) → (T b → P x) → (T (not b) → P y) → P (cond b x y)
 by P true x y f g = f tt
 by P false x y f g = g tt
 
-pub cond-on : {A : Type 0} (b : Bool) (x y : A) → T b → cond b x y ≡ x
-cond-on true x y h = refl
-cond-on false x y h = absurd h
+pub cond_on : {A : Type 0} (b : Bool) (x y : A) → T b → cond b x y ≡ x
+cond_on true x y h = refl
+cond_on false x y h = absurd h
 
-pub cond-off : {A : Type 0} (b : Bool) (x y : A) → T (not b) → cond b x y ≡ y
-cond-off true x y h = absurd h
-cond-off false x y h = refl
+pub cond_off : {A : Type 0} (b : Bool) (x y : A) → T (not b) → cond b x y ≡ y
+cond_off true x y h = absurd h
+cond_off false x y h = refl
 
 pub is_true : (b : Bool) → T b → b ≡ true
 is_true true h = refl
@@ -108,5 +108,5 @@ is_false false h = refl
 pub ne_test : (a b : ℕ) → T (not (eqb a b)) → a ≢ b
 ne_test a b h e = clash (eqb a b) (subst (λ x. T (eqb a x)) e (eqb_refl a)) h
 
-pub test-ne : (a b : ℕ) → a ≢ b → T (not (eqb a b))
-test-ne a b ne = none_of (eqb a b) (λ t. ne (eqb→eq a b t))
+pub test_ne : (a b : ℕ) → a ≢ b → T (not (eqb a b))
+test_ne a b ne = none_of (eqb a b) (λ t. ne (eqb→eq a b t))

@@ -3,16 +3,16 @@ use Rattle.std.proofs.Common.{◌≡◌, ℕ, zero, suc, ◌+◌, ◌-◌, ◌*�
 use Rattle.std.proofs.lemmas.List.{get_or-set_same, get_or-set_other, set_past, get_or-replicate, get_or_past, length-replicate}
 use Rattle.std.proofs.lemmas.Bool.{cond_both, cases_eq, cases_lt, cond-false}
 use Rattle.std.proofs.lemmas.Bool.Decides.{nat_tests}
-use Rattle.bank.specs.Registers.{written, can-hold}
-use Rattle.door.specs.Limits.{arm-limit, visit-limit, tally-limit}
-use Rattle.door.specs.Positions.{group, access_of, regs-after, value_read, side_after, side-of, phase-of}
+use Rattle.bank.specs.Registers.{written, can_hold}
+use Rattle.door.specs.Limits.{arm_limit, visit_limit, tally_limit}
+use Rattle.door.specs.Positions.{group, access_of, regs_after, value_read, side_after, side_of, phase_of}
 use Rattle.door.specs.Arms.{fresh, no_arm}
-use Rattle.door.specs.Tallies.{with_row, counted, each, same-phase, past-doorway, row-started, row-cleared, tallied}
-use Rattle.door.specs.Making.{room, arms-for, made-regs, cleared}
-use Rattle.door.specs.States.{State, made, arm_at, is-arm, phase-at, with-arm}
+use Rattle.door.specs.Tallies.{with_row, counted, each, same_phase, past_doorway, row_started, row_cleared, tallied}
+use Rattle.door.specs.Making.{room, arms_for, made_regs, cleared}
+use Rattle.door.specs.States.{State, made, arm_at, is_arm, phase_at, with_arm}
 use Rattle.door.specs.declared.call.Call.{Call}
 use Rattle.door.specs.declared.call.Call.TheVariants.{Begin as begin, Step as step, Admit as admit, Confirm as confirm, Leave as leave, Look as look, Tally as tally, Way as way}
-use Rattle.door.specs.Calls.{refusal-of, begin-refusal, step-refusal, done, after, with-visit, access-at, arm-after, stepped}
+use Rattle.door.specs.Calls.{refusal_of, begin_refusal, step_refusal, done, after, with_visit, access_at, arm_after, stepped}
 use Rattle.door.specs.declared.access.Access.{Access}
 use Rattle.door.specs.declared.access.Access.TheVariants.{Nothing, Read, Write}
 use Rattle.door.specs.declared.arm.Arm.{Arm}
@@ -22,20 +22,20 @@ use Rattle.door.specs.declared.position.Phase.{Phase}
 use Rattle.door.specs.declared.position.Phase.TheVariants as P
 use Rattle.door.specs.declared.position.Position.{Position}
 use Rattle.door.specs.declared.position.Position.TheVariants.{Idle, Doorway, Waiting, Inside, Leaving}
-use Rattle.door.proofs.Accepted.{unless-both, for-arm-none, begin-none, known-arm}
-use Rattle.door.proofs.Rooms.{arms-few}
+use Rattle.door.proofs.Accepted.{unless_both, for_arm_none, begin_none, known_arm}
+use Rattle.door.proofs.Rooms.{arms_few}
 
 -- what a gate's state never exceeds
-pub record Bounded-arm (a : Arm) : Type 0 where
-  pub bit : side-of a.side ≤ 1
-  pub begun : a.visits ≤ visit-limit
-  pub counts : (b : ℕ) → get_or a.row b 0 ≤ tally-limit
+pub record BoundedArm (a : Arm) : Type 0 where
+  pub bit : side_of a.side ≤ 1
+  pub begun : a.visits ≤ visit_limit
+  pub counts : (b : ℕ) → get_or a.row b 0 ≤ tally_limit
 
 -- at most 32 arms; with one at least, the group is a bit; so is every side; no visit and no count is above its limit
 pub record Bounded (s : State) : Type 0 where
-  pub few : s.n ≤ arm-limit
+  pub few : s.n ≤ arm_limit
   pub bit : 1 ≤ s.n → get_or s.regs group 0 ≤ 1
-  pub each : (k : ℕ) → Bounded-arm (get_or s.arms k no_arm)
+  pub each : (k : ℕ) → BoundedArm (get_or s.arms k no_arm)
 
 -- what holds of every place of a list holds after one is replaced
 pub kept_set : {X : Type 0} (P : X → Type 0) (xs : List X) (i : ℕ) (x d : X) → ((k : ℕ) → P (get_or xs k d)) → P x → (k : ℕ) → P (get_or (set xs i x) k d)
@@ -48,44 +48,44 @@ kept_set P xs i x d all one k =
       | inr n ↦ subst P (sym (get_or-set_other xs i k x d n)) (all k)
     ]
 
-kept-replicate : {X : Type 0} (P : X → Type 0) (n : ℕ) (x d : X) → P x → P d → (k : ℕ) → P (get_or (replicate n x) k d)
-kept-replicate P n x d px pd k =
+kept_replicate : {X : Type 0} (P : X → Type 0) (n : ℕ) (x d : X) → P x → P d → (k : ℕ) → P (get_or (replicate n x) k d)
+kept_replicate P n x d px pd k =
     elim (cases_lt k n) [
       | inl l ↦ subst P (sym (get_or-replicate n k x d l)) px
       | inr l ↦ subst P (sym (get_or_past (replicate n x) k d (subst (λ m. m ≤ k) (sym (length-replicate n x)) l))) pd
     ]
 
-zeros : (n k : ℕ) → get_or (replicate n 0) k 0 ≤ tally-limit
-zeros n k = kept-replicate (λ v. v ≤ tally-limit) n 0 0 (omega arith) (omega arith) k
+zeros : (n k : ℕ) → get_or (replicate n 0) k 0 ≤ tally_limit
+zeros n k = kept_replicate (λ v. v ≤ tally_limit) n 0 0 (omega arith) (omega arith) k
 
-pub no-arm-bounded : Bounded-arm no_arm
-no-arm-bounded = record { bit = omega arith; begun = omega arith; counts = λ b. omega arith }
+pub no_arm_bounded : BoundedArm no_arm
+no_arm_bounded = record { bit = omega arith; begun = omega arith; counts = λ b. omega arith }
 
-fresh-bounded : Bounded-arm fresh
-fresh-bounded = record { bit = omega arith; begun = omega arith; counts = zeros arm-limit }
+fresh_bounded : BoundedArm fresh
+fresh_bounded = record { bit = omega arith; begun = omega arith; counts = zeros arm_limit }
 
 -- every value that a step writes is 0 or 1
-Writes-bit : Access → Type 0
-Writes-bit Nothing = Unit {0}
-Writes-bit (Read q) = Unit {0}
-Writes-bit (Write q v) = v ≤ 1
+WritesBit : Access → Type 0
+WritesBit Nothing = Unit {0}
+WritesBit (Read q) = Unit {0}
+WritesBit (Write q v) = v ≤ 1
 
-writes-bit : (i s : ℕ) (p : Position) → s ≤ 1 → Writes-bit (access_of i s p)
-unfolding Writes-bit
-writes-bit i s Idle h = tt
-writes-bit i s (Doorway D1) h = omega arith
-writes-bit i s (Doorway D2) h = tt
-writes-bit i s (Doorway D3) h = h
-writes-bit i s (Doorway D4) h = omega arith
-writes-bit i s (Doorway D5) h = omega arith
-writes-bit i s (Waiting j p) h = tt
-writes-bit i s Inside h = tt
-writes-bit i s (Leaving X1) h = omega arith
-writes-bit i s (Leaving X2) h = omega arith
+writes_bit : (i s : ℕ) (p : Position) → s ≤ 1 → WritesBit (access_of i s p)
+unfolding WritesBit
+writes_bit i s Idle h = tt
+writes_bit i s (Doorway D1) h = omega arith
+writes_bit i s (Doorway D2) h = tt
+writes_bit i s (Doorway D3) h = h
+writes_bit i s (Doorway D4) h = omega arith
+writes_bit i s (Doorway D5) h = omega arith
+writes_bit i s (Waiting j p) h = tt
+writes_bit i s Inside h = tt
+writes_bit i s (Leaving X1) h = omega arith
+writes_bit i s (Leaving X2) h = omega arith
 
-written-bit : (high : ℕ) (regs : List ℕ) (q v : ℕ) → get_or regs group 0 ≤ 1 → v ≤ 1 → get_or (written high regs q v) group 0 ≤ 1
-written-bit high regs q v h b =
-    cond_both (can-hold high regs q v) _ _ (λ rs. get_or rs group 0 ≤ 1)
+written_bit : (high : ℕ) (regs : List ℕ) (q v : ℕ) → get_or regs group 0 ≤ 1 → v ≤ 1 → get_or (written high regs q v) group 0 ≤ 1
+written_bit high regs q v h b =
+    cond_both (can_hold high regs q v) _ _ (λ rs. get_or rs group 0 ≤ 1)
     (λ _. elim (cases_eq group q) [
       | inl e ↦ elim (cases_lt q (length regs)) [
         | inl l ↦ subst (λ x. x ≤ 1) (sym (ap (λ j. get_or (set regs q v) j 0) e ∙ get_or-set_same regs q v 0 l)) b
@@ -95,113 +95,113 @@ written-bit high regs q v h b =
     ])
     (λ _. h)
 
-access-bit : (high : ℕ) (regs : List ℕ) (a : Access) → get_or regs group 0 ≤ 1 → Writes-bit a → get_or (regs-after high regs a) group 0 ≤ 1
-unfolding Writes-bit
-access-bit high regs Nothing h b = h
-access-bit high regs (Read q) h b = h
-access-bit high regs (Write q v) h b = written-bit high regs q v h b
+access_bit : (high : ℕ) (regs : List ℕ) (a : Access) → get_or regs group 0 ≤ 1 → WritesBit a → get_or (regs_after high regs a) group 0 ≤ 1
+unfolding WritesBit
+access_bit high regs Nothing h b = h
+access_bit high regs (Read q) h b = h
+access_bit high regs (Write q v) h b = written_bit high regs q v h b
 
 -- the side that a step leaves is a bit
-side-bit : (i : ℕ) (regs : List ℕ) (p : Position) (s : Option ℕ) → get_or regs group 0 ≤ 1 → side-of s ≤ 1
-    → side-of (side_after (value_read regs (access_of i (side-of s) p)) p s) ≤ 1
-side-bit i regs Idle s h b = b
-side-bit i regs (Doorway D1) s h b = b
-side-bit i regs (Doorway D2) s h b = h
-side-bit i regs (Doorway D3) s h b = b
-side-bit i regs (Doorway D4) s h b = b
-side-bit i regs (Doorway D5) s h b = b
-side-bit i regs (Waiting j p) s h b = b
-side-bit i regs Inside s h b = b
-side-bit i regs (Leaving X1) s h b = b
-side-bit i regs (Leaving X2) s h b = omega arith
+side_bit : (i : ℕ) (regs : List ℕ) (p : Position) (s : Option ℕ) → get_or regs group 0 ≤ 1 → side_of s ≤ 1
+    → side_of (side_after (value_read regs (access_of i (side_of s) p)) p s) ≤ 1
+side_bit i regs Idle s h b = b
+side_bit i regs (Doorway D1) s h b = b
+side_bit i regs (Doorway D2) s h b = h
+side_bit i regs (Doorway D3) s h b = b
+side_bit i regs (Doorway D4) s h b = b
+side_bit i regs (Doorway D5) s h b = b
+side_bit i regs (Waiting j p) s h b = b
+side_bit i regs Inside s h b = b
+side_bit i regs (Leaving X1) s h b = b
+side_bit i regs (Leaving X2) s h b = omega arith
 
 -- rows
-row-bounded : (r : List ℕ) (t : List Bool) (a : Arm) → ((b : ℕ) → get_or r b 0 ≤ tally-limit) → Bounded-arm a → Bounded-arm (with_row r t a)
-row-bounded r t a h all = record { bit = all.bit; begun = all.begun; counts = h }
+row_bounded : (r : List ℕ) (t : List Bool) (a : Arm) → ((b : ℕ) → get_or r b 0 ≤ tally_limit) → BoundedArm a → BoundedArm (with_row r t a)
+row_bounded r t a h all = record { bit = all.bit; begun = all.begun; counts = h }
 
-counted-bounded : (b k : ℕ) (a : Arm) → Bounded-arm a → Bounded-arm (counted b k a)
-counted-bounded b k a h =
-    cond_both (not (eqb k b) && past-doorway (phase-of a.position)) _ _ Bounded-arm
-    (λ _. row-bounded _ a.notes a (kept_set (λ v. v ≤ tally-limit) a.row b _ 0 h.counts (omega arith)) h)
+counted_bounded : (b k : ℕ) (a : Arm) → BoundedArm a → BoundedArm (counted b k a)
+counted_bounded b k a h =
+    cond_both (not (eqb k b) && past_doorway (phase_of a.position)) _ _ BoundedArm
+    (λ _. row_bounded _ a.notes a (kept_set (λ v. v ≤ tally_limit) a.row b _ 0 h.counts (omega arith)) h)
     (λ _. h)
 
-each-bounded : (f : ℕ → Arm → Arm) → ((k : ℕ) (a : Arm) → Bounded-arm a → Bounded-arm (f k a))
-    → (j : ℕ) (arms : List Arm) → ((k : ℕ) → Bounded-arm (get_or arms k no_arm)) → (k : ℕ) → Bounded-arm (get_or (each f j arms) k no_arm)
-each-bounded f h j [] all k = no-arm-bounded
-each-bounded f h j (a ∷ more) all zero = h j a (all zero)
-each-bounded f h j (a ∷ more) all (suc k) = each-bounded f h (suc j) more (λ m. all (suc m)) k
+each_bounded : (f : ℕ → Arm → Arm) → ((k : ℕ) (a : Arm) → BoundedArm a → BoundedArm (f k a))
+    → (j : ℕ) (arms : List Arm) → ((k : ℕ) → BoundedArm (get_or arms k no_arm)) → (k : ℕ) → BoundedArm (get_or (each f j arms) k no_arm)
+each_bounded f h j [] all k = no_arm_bounded
+each_bounded f h j (a ∷ more) all zero = h j a (all zero)
+each_bounded f h j (a ∷ more) all (suc k) = each_bounded f h (suc j) more (λ m. all (suc m)) k
 
-tallied-bounded : (k : ℕ) (p q : Phase) (arms : List Arm) → ((j : ℕ) → Bounded-arm (get_or arms j no_arm)) → (j : ℕ) → Bounded-arm (get_or (tallied k p q arms) j no_arm)
-tallied-bounded k P.I q arms h j = h j
-tallied-bounded k P.D q arms h j =
-    cond_both (same-phase q P.W) (row-started k arms) arms (λ rs. Bounded-arm (get_or rs j no_arm))
-    (λ _. kept_set Bounded-arm arms k _ no_arm h (row-bounded _ _ (get_or arms k no_arm) (zeros arm-limit) (h k)) j) (λ _. h j)
-tallied-bounded k P.W q arms h j =
-    cond_both (same-phase q P.F) (each (counted k) 0 arms) arms (λ rs. Bounded-arm (get_or rs j no_arm))
-    (λ _. each-bounded (counted k) (counted-bounded k) 0 arms h j) (λ _. h j)
-tallied-bounded k P.F q arms h j = h j
-tallied-bounded k P.X q arms h j =
-    cond_both (same-phase q P.I) (row-cleared k arms) arms (λ rs. Bounded-arm (get_or rs j no_arm))
-    (λ _. kept_set Bounded-arm arms k _ no_arm h (row-bounded _ _ (get_or arms k no_arm) (zeros arm-limit) (h k)) j) (λ _. h j)
+tallied_bounded : (k : ℕ) (p q : Phase) (arms : List Arm) → ((j : ℕ) → BoundedArm (get_or arms j no_arm)) → (j : ℕ) → BoundedArm (get_or (tallied k p q arms) j no_arm)
+tallied_bounded k P.I q arms h j = h j
+tallied_bounded k P.D q arms h j =
+    cond_both (same_phase q P.W) (row_started k arms) arms (λ rs. BoundedArm (get_or rs j no_arm))
+    (λ _. kept_set BoundedArm arms k _ no_arm h (row_bounded _ _ (get_or arms k no_arm) (zeros arm_limit) (h k)) j) (λ _. h j)
+tallied_bounded k P.W q arms h j =
+    cond_both (same_phase q P.F) (each (counted k) 0 arms) arms (λ rs. BoundedArm (get_or rs j no_arm))
+    (λ _. each_bounded (counted k) (counted_bounded k) 0 arms h j) (λ _. h j)
+tallied_bounded k P.F q arms h j = h j
+tallied_bounded k P.X q arms h j =
+    cond_both (same_phase q P.I) (row_cleared k arms) arms (λ rs. BoundedArm (get_or rs j no_arm))
+    (λ _. kept_set BoundedArm arms k _ no_arm h (row_bounded _ _ (get_or arms k no_arm) (zeros arm_limit) (h k)) j) (λ _. h j)
 
 -- calls
-with-arm-bounded : (i : ℕ) (a : Arm) (s : State) → Bounded s → Bounded-arm a → Bounded (with-arm i a s)
-with-arm-bounded i a s h b = record { few = h.few; bit = h.bit; each = kept_set Bounded-arm s.arms (i - 1) a no_arm h.each b }
+with_arm_bounded : (i : ℕ) (a : Arm) (s : State) → Bounded s → BoundedArm a → Bounded (with_arm i a s)
+with_arm_bounded i a s h b = record { few = h.few; bit = h.bit; each = kept_set BoundedArm s.arms (i - 1) a no_arm h.each b }
 
-visit-bounded : (p : Position) (v : ℕ) (o : Bool) (a : Arm) → v ≤ visit-limit → Bounded-arm a → Bounded-arm (with-visit p v o a)
-visit-bounded p v o a l h = record { bit = h.bit; begun = l; counts = h.counts }
+visit_bounded : (p : Position) (v : ℕ) (o : Bool) (a : Arm) → v ≤ visit_limit → BoundedArm a → BoundedArm (with_visit p v o a)
+visit_bounded p v o a l h = record { bit = h.bit; begun = l; counts = h.counts }
 
-stepped-bounded : (i : ℕ) (s : State) → 1 ≤ s.n → Bounded s → Bounded (stepped i s)
-stepped-bounded i s some h =
+stepped_bounded : (i : ℕ) (s : State) → 1 ≤ s.n → Bounded s → Bounded (stepped i s)
+stepped_bounded i s some h =
     let a = arm_at s i in
     let b = h.each (i - 1) in
     record {
       few = h.few;
-      bit = λ _. access-bit s.high s.regs (access-at s i) (h.bit some) (writes-bit i (side-of a.side) a.position b.bit);
-      each = tallied-bounded (i - 1) (phase-at s i) (phase-of (arm-after s i).position) (set s.arms (i - 1) (arm-after s i))
-          (kept_set Bounded-arm s.arms (i - 1) (arm-after s i) no_arm h.each
-          (record { bit = side-bit i s.regs a.position a.side (h.bit some) b.bit; begun = b.begun; counts = b.counts }));
+      bit = λ _. access_bit s.high s.regs (access_at s i) (h.bit some) (writes_bit i (side_of a.side) a.position b.bit);
+      each = tallied_bounded (i - 1) (phase_at s i) (phase_of (arm_after s i).position) (set s.arms (i - 1) (arm_after s i))
+          (kept_set BoundedArm s.arms (i - 1) (arm_after s i) no_arm h.each
+          (record { bit = side_bit i s.regs a.position a.side (h.bit some) b.bit; begun = b.begun; counts = b.counts }));
     }
 
-pub after-bounded : (s : State) (c : Call) → Bounded s → Bounded (after s c)
-after-bounded s (begin i) h =
+pub after_bounded : (s : State) (c : Call) → Bounded s → Bounded (after s c)
+after_bounded s (begin i) h =
     let a = arm_at s i in
-    unless-both (refusal-of s (begin i)) (done s (begin i)) s Bounded
+    unless_both (refusal_of s (begin i)) (done s (begin i)) s Bounded
     (λ e.
-    let below = (begin-none (phase-at s i) a.visits (for-arm-none (is-arm s i) (begin-refusal (phase-at s i) a.visits) e)).1 in
-    with-arm-bounded i (with-visit (Doorway D1) (a.visits + 1) a.out a) s h
-    (visit-bounded (Doorway D1) (a.visits + 1) a.out a (omega arith) (h.each (i - 1))))
+    let below = (begin_none (phase_at s i) a.visits (for_arm_none (is_arm s i) (begin_refusal (phase_at s i) a.visits) e)).1 in
+    with_arm_bounded i (with_visit (Doorway D1) (a.visits + 1) a.out a) s h
+    (visit_bounded (Doorway D1) (a.visits + 1) a.out a (omega arith) (h.each (i - 1))))
     h
-after-bounded s (step i) h = unless-both (refusal-of s (step i)) (done s (step i)) s Bounded (λ e. stepped-bounded i s (let r = known-arm s i (step-refusal (phase-at s i)) e in omega arith) h) h
-after-bounded s (admit i) h =
+after_bounded s (step i) h = unless_both (refusal_of s (step i)) (done s (step i)) s Bounded (λ e. stepped_bounded i s (let r = known_arm s i (step_refusal (phase_at s i)) e in omega arith) h) h
+after_bounded s (admit i) h =
     let a = arm_at s i in
     let b = h.each (i - 1) in
-    unless-both (refusal-of s (admit i)) (done s (admit i)) s Bounded
-    (λ _. with-arm-bounded i (with-visit a.position a.visits true a) s h (visit-bounded a.position a.visits true a b.begun b)) h
-after-bounded s (confirm g i) h = h
-after-bounded s (look i) h = unless-both (refusal-of s (look i)) s s Bounded (λ _. h) h
-after-bounded s (leave g i) h =
+    unless_both (refusal_of s (admit i)) (done s (admit i)) s Bounded
+    (λ _. with_arm_bounded i (with_visit a.position a.visits true a) s h (visit_bounded a.position a.visits true a b.begun b)) h
+after_bounded s (confirm g i) h = h
+after_bounded s (look i) h = unless_both (refusal_of s (look i)) s s Bounded (λ _. h) h
+after_bounded s (leave g i) h =
     let a = arm_at s i in
     let b = h.each (i - 1) in
-    unless-both (refusal-of s (leave g i)) (done s (leave g i)) s Bounded
-    (λ _. with-arm-bounded i (with-visit (Leaving X1) a.visits false a) s h (visit-bounded (Leaving X1) a.visits false a b.begun b)) h
-after-bounded s (tally w b) h = unless-both (refusal-of s (tally w b)) s s Bounded (λ _. h) h
-after-bounded s (way i) h = unless-both (refusal-of s (way i)) s s Bounded (λ _. h) h
+    unless_both (refusal_of s (leave g i)) (done s (leave g i)) s Bounded
+    (λ _. with_arm_bounded i (with_visit (Leaving X1) a.visits false a) s h (visit_bounded (Leaving X1) a.visits false a b.begun b)) h
+after_bounded s (tally w b) h = unless_both (refusal_of s (tally w b)) s s Bounded (λ _. h) h
+after_bounded s (way i) h = unless_both (refusal_of s (way i)) s s Bounded (λ _. h) h
 
 -- a gate just made
-cleared-bit : (k : ℕ) (regs : List ℕ) → get_or (cleared (suc k) regs) group 0 ≤ 1
-cleared-bit k regs = omega arith
+cleared_bit : (k : ℕ) (regs : List ℕ) → get_or (cleared (suc k) regs) group 0 ≤ 1
+cleared_bit k regs = omega arith
 
-made-bit : (n : ℕ) (regs : List ℕ) → 1 ≤ n → get_or (made-regs n regs) group 0 ≤ 1
-made-bit n regs h =
+made_bit : (n : ℕ) (regs : List ℕ) → 1 ≤ n → get_or (made_regs n regs) group 0 ≤ 1
+made_bit n regs h =
     let some : eqb n 0 ≡ false = grind (arith, nat_tests) in
     let e : room n ≡ suc (3 * n) = omega arith in
-    subst (λ rs. get_or rs group 0 ≤ 1) (sym (cond-false (eqb n 0) regs (cleared (room n) regs) some ∙ ap (λ k. cleared k regs) e)) (cleared-bit (3 * n) regs)
+    subst (λ rs. get_or rs group 0 ≤ 1) (sym (cond-false (eqb n 0) regs (cleared (room n) regs) some ∙ ap (λ k. cleared k regs) e)) (cleared_bit (3 * n) regs)
 
-pub made-bounded : (high number wanted : ℕ) (regs : List ℕ) → Bounded (made high number wanted regs)
-made-bounded high number wanted regs =
+pub made_bounded : (high number wanted : ℕ) (regs : List ℕ) → Bounded (made high number wanted regs)
+made_bounded high number wanted regs =
     record {
-      few = arms-few high (length regs) wanted;
-      bit = made-bit (arms-for high (length regs) wanted) regs;
-      each = kept-replicate Bounded-arm arm-limit fresh no_arm fresh-bounded no-arm-bounded;
+      few = arms_few high (length regs) wanted;
+      bit = made_bit (arms_for high (length regs) wanted) regs;
+      each = kept_replicate BoundedArm arm_limit fresh no_arm fresh_bounded no_arm_bounded;
     }

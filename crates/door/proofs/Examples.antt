@@ -1,9 +1,9 @@
 -- Two histories, worked out.
 use Rattle.std.proofs.Common.{◌≡◌, ℕ, true, false, List, [], ◌∷◌, ◌++◌, get_or, replicate, refl}
 use Rattle.door.specs.Making.{largest}
-use Rattle.door.specs.States.{State, made, arm_at, phase-at}
-use Rattle.door.specs.Calls.{run, has-way}
-use Rattle.door.specs.History.{bit-read, entries-since, idle_then}
+use Rattle.door.specs.States.{State, made, arm_at, phase_at}
+use Rattle.door.specs.Calls.{run, has_way}
+use Rattle.door.specs.History.{bit_read, entries_since, idle_then}
 use Rattle.door.specs.declared.call.Call.{Call}
 use Rattle.door.specs.declared.call.Call.TheVariants.{Begin as begin, Step as step, Admit as admit, Leave as leave}
 use Rattle.door.specs.declared.position.Phase.TheVariants as P
@@ -15,28 +15,28 @@ steps_of i k = replicate k (step i)
 abbrev first : State
 first = made 1 0 2 (replicate 9 1)
 
-abbrev one-past : List Call
-one-past = begin 1 ∷ [] ++ steps_of 1 5 ++ (begin 2 ∷ []) ++ steps_of 2 5 ++ steps_of 1 6 ++ (admit 1 ∷ leave 0 1 ∷ []) ++ steps_of 1 3
+abbrev one_past : List Call
+one_past = begin 1 ∷ [] ++ steps_of 1 5 ++ (begin 2 ∷ []) ++ steps_of 2 5 ++ steps_of 1 6 ++ (admit 1 ∷ leave 0 1 ∷ []) ++ steps_of 1 3
 
-turned : get_or (run first one-past).regs 0 0 ≡ 1
+turned : get_or (run first one_past).regs 0 0 ≡ 1
 unfolding largest
 turned = refl
 
-still-waits : phase-at (run first one-past) 2 ≡ P.W
+still_waits : phase_at (run first one_past) 2 ≡ P.W
 unfolding largest
-still-waits = refl
+still_waits = refl
 
-bit-of-second : bit-read 2 first one-past ≡ 0
+bit_of_second : bit_read 2 first one_past ≡ 0
 unfolding largest
-bit-of-second = refl
+bit_of_second = refl
 
-past-second : entries-since 2 1 first one-past ≡ 1
+past_second : entries_since 2 1 first one_past ≡ 1
 unfolding largest
-past-second = refl
+past_second = refl
 
-way-of-second : has-way (run first one-past) 2 ≡ true
+way_of_second : has_way (run first one_past) 2 ≡ true
 unfolding largest
-way-of-second = refl
+way_of_second = refl
 
 -- arm 2 goes inside twice past arm 1
 abbrev second : State
@@ -46,22 +46,22 @@ abbrev two_past : List Call
 two_past = begin 2 ∷ begin 3 ∷ [] ++ steps_of 2 5 ++ steps_of 3 5 ++ steps_of 3 9 ++ (admit 3 ∷ leave 7 3 ∷ []) ++ steps_of 3 2 ++ (begin 1 ∷ []) ++ steps_of 1 5 ++ steps_of 2 1
     ++ (admit 2 ∷ leave 7 2 ∷ []) ++ steps_of 2 2 ++ (begin 2 ∷ []) ++ steps_of 2 5 ++ steps_of 2 15
 
-bit-of-first : bit-read 1 second two_past ≡ 1
+bit_of_first : bit_read 1 second two_past ≡ 1
 unfolding largest
-bit-of-first = refl
+bit_of_first = refl
 
-past_first : entries-since 1 2 second two_past ≡ 2
+past_first : entries_since 1 2 second two_past ≡ 2
 unfolding largest
 past_first = refl
 
-row-of-first : get_or (arm_at (run second two_past) 1).row 1 0 ≡ 2
+row_of_first : get_or (arm_at (run second two_past) 1).row 1 0 ≡ 2
 unfolding largest
-row-of-first = refl
+row_of_first = refl
 
-busy-then : idle_then 1 2 second two_past ≡ false
+busy_then : idle_then 1 2 second two_past ≡ false
 unfolding largest
-busy-then = refl
+busy_then = refl
 
-idle-third : idle_then 1 3 second two_past ≡ true
+idle_third : idle_then 1 3 second two_past ≡ true
 unfolding largest
-idle-third = refl
+idle_third = refl

@@ -3,77 +3,77 @@ use Rattle.std.proofs.Common.{◌≡◌, ℕ, zero, suc, ◌+◌, ◌-◌, ◌<�
 use lib.ListN.{length-replicate}
 use Rattle.std.specs.List.{slice_get}
 use Rattle.std.proofs.lemmas.List.{set_at, drop_more, replicate_more}
-use Rattle.std.proofs.lemmas.Option.{slice_get-get_or as nth-getD, slice_get_past as nth_past}
+use Rattle.std.proofs.lemmas.Option.{slice_get-get_or as nth_getD, slice_get_past as nth_past}
 use Rattle.std.proofs.lemmas.Bool.{cond-true, cond_both, cases_lt, leb-true, le-leb, lt-leb}
 use Rattle.std.proofs.lemmas.Bool.Decides.{nat_tests}
-use Rattle.bank.specs.Registers.{written, can-hold}
-use Rattle.door.specs.Limits.{arm-limit}
-use Rattle.door.specs.Making.{room, largest, arms-for, cleared}
+use Rattle.bank.specs.Registers.{written, can_hold}
+use Rattle.door.specs.Limits.{arm_limit}
+use Rattle.door.specs.Making.{room, largest, arms_for, cleared}
 
 -- a read at the last register of n arms tells whether they have room
-pub some-room : (regs : List ℕ) (i v : ℕ) → Some v ≡ slice_get regs i → leb (i + 1) (length regs) ≡ true
-some-room regs i v e =
+pub some_room : (regs : List ℕ) (i v : ℕ) → Some v ≡ slice_get regs i → leb (i + 1) (length regs) ≡ true
+some_room regs i v e =
     elim (cases_lt i (length regs)) [
       | inl l ↦ le-leb (i + 1) (length regs) (omega arith)
       | inr l ↦ (let f = nth_past regs i l in let z : ◌≡◌ {A = ℕ} 0 1 = cc in absurd (omega arith))
     ]
 
-pub none-room : (regs : List ℕ) (i : ℕ) → None ≡ slice_get regs i → leb (i + 1) (length regs) ≡ false
-none-room regs i e =
+pub none_room : (regs : List ℕ) (i : ℕ) → None ≡ slice_get regs i → leb (i + 1) (length regs) ≡ false
+none_room regs i e =
     elim (cases_lt i (length regs)) [
-      | inl l ↦ (let f = nth-getD regs i 0 l in let z : ◌≡◌ {A = ℕ} 0 1 = cc in absurd (omega arith))
+      | inl l ↦ (let f = nth_getD regs i 0 l in let z : ◌≡◌ {A = ℕ} 0 1 = cc in absurd (omega arith))
       | inr l ↦ lt-leb (i + 1) (length regs) (omega arith)
     ]
 
 -- the search from above
-pub largest-none : (len n : ℕ) → n ≡ 0 → largest len n ≡ n
+pub largest_none : (len n : ℕ) → n ≡ 0 → largest len n ≡ n
 unfolding largest
-largest-none len n e = ap (largest len) e ∙ sym e
+largest_none len n e = ap (largest len) e ∙ sym e
 
-pub largest-here : (len n : ℕ) → 0 < n → leb (room n) len ≡ true → largest len n ≡ n
+pub largest_here : (len n : ℕ) → 0 < n → leb (room n) len ≡ true → largest len n ≡ n
 unfolding largest
-largest-here len n h t =
+largest_here len n h t =
     let e : n ≡ suc (n - 1) = omega arith in
     let u : leb (room (suc (n - 1))) len ≡ true = ap (λ z. leb (room z) len) (sym e) ∙ t in
     ap (largest len) e ∙ ap (λ b. cond b (suc (n - 1)) (largest len (n - 1))) u ∙ sym e
 
-pub largest-down : (len n : ℕ) → 0 < n → leb (room n) len ≡ false → largest len (n - 1) ≡ largest len n
+pub largest_down : (len n : ℕ) → 0 < n → leb (room n) len ≡ false → largest len (n - 1) ≡ largest len n
 unfolding largest
-largest-down len n h t =
+largest_down len n h t =
     let e : n ≡ suc (n - 1) = omega arith in
     let u : leb (room (suc (n - 1))) len ≡ false = ap (λ z. leb (room z) len) (sym e) ∙ t in
     sym (ap (largest len) e ∙ ap (λ b. cond b (suc (n - 1)) (largest len (n - 1))) u)
 
-largest-most : (len k : ℕ) → largest len k ≤ k
+largest_most : (len k : ℕ) → largest len k ≤ k
 unfolding largest
-largest-most len zero = omega arith
-largest-most len (suc k) = let h = largest-most len k in cond_both (leb (room (suc k)) len) _ _ (λ n. n ≤ suc k) (λ e. omega arith) (λ e. omega arith)
+largest_most len zero = omega arith
+largest_most len (suc k) = let h = largest_most len k in cond_both (leb (room (suc k)) len) _ _ (λ n. n ≤ suc k) (λ e. omega arith) (λ e. omega arith)
 
-largest-fits : (len k : ℕ) → 0 < largest len k → room (largest len k) ≤ len
+largest_fits : (len k : ℕ) → 0 < largest len k → room (largest len k) ≤ len
 unfolding largest
-largest-fits len zero h = absurd (omega arith)
-largest-fits len (suc k) h =
+largest_fits len zero h = absurd (omega arith)
+largest_fits len (suc k) h =
     elim (leb (room (suc k)) len) as
     (λ b. leb (room (suc k)) len ≡ b → 0 < cond b (suc k) (largest len k) → room (cond b (suc k) (largest len k)) ≤ len)
-    [ true ↦ λ e _. leb-true (room (suc k)) len e | false ↦ λ _ p. largest-fits len k p ] refl h
+    [ true ↦ λ e _. leb-true (room (suc k)) len e | false ↦ λ _ p. largest_fits len k p ] refl h
 
-pub arms-few : (high len wanted : ℕ) → arms-for high len wanted ≤ arm-limit
-arms-few high len wanted =
-    let h = largest-most len (min wanted arm-limit) in
-    cond_both (eqb high 0) _ _ (λ n. n ≤ arm-limit) (λ e. omega arith) (λ e. omega arith)
+pub arms_few : (high len wanted : ℕ) → arms_for high len wanted ≤ arm_limit
+arms_few high len wanted =
+    let h = largest_most len (min wanted arm_limit) in
+    cond_both (eqb high 0) _ _ (λ n. n ≤ arm_limit) (λ e. omega arith) (λ e. omega arith)
 
-pub arms-fit : (high len wanted : ℕ) → 0 < arms-for high len wanted → room (arms-for high len wanted) ≤ len
-arms-fit high len wanted =
+pub arms_fit : (high len wanted : ℕ) → 0 < arms_for high len wanted → room (arms_for high len wanted) ≤ len
+arms_fit high len wanted =
     elim (eqb high 0) as
-    (λ b. 0 < cond b 0 (largest len (min wanted arm-limit)) → room (cond b 0 (largest len (min wanted arm-limit))) ≤ len)
-    [ true ↦ λ p. absurd (omega arith) | false ↦ largest-fits len (min wanted arm-limit) ]
+    (λ b. 0 < cond b 0 (largest len (min wanted arm_limit)) → room (cond b 0 (largest len (min wanted arm_limit))) ≤ len)
+    [ true ↦ λ p. absurd (omega arith) | false ↦ largest_fits len (min wanted arm_limit) ]
 
 -- one register more made 0
-pub length-cleared : (i : ℕ) (regs : List ℕ) → i ≤ length regs → length (cleared i regs) ≡ length regs
-length-cleared i regs h = simp (length-append, length-replicate, length-drop) (omega arith)
+pub length_cleared : (i : ℕ) (regs : List ℕ) → i ≤ length regs → length (cleared i regs) ≡ length regs
+length_cleared i regs h = simp (length-append, length-replicate, length-drop) (omega arith)
 
-set-cleared : (i : ℕ) (regs : List ℕ) → i < length regs → set (cleared i regs) i 0 ≡ cleared (i + 1) regs
-set-cleared i regs h =
+set_cleared : (i : ℕ) (regs : List ℕ) → i < length regs → set (cleared i regs) i 0 ≡ cleared (i + 1) regs
+set_cleared i regs h =
     ap (λ xs. set (replicate i 0 ++ xs) i 0) (drop_more regs i 0 h)
     ∙ set_at (replicate i 0) (get_or regs i 0) (drop (i + 1) regs) 0 i (length-replicate i 0)
     ∙ sym (append_assoc (replicate i 0) (0 ∷ []) (drop (i + 1) regs))
@@ -81,6 +81,6 @@ set-cleared i regs h =
 
 pub cleared_more : (high i : ℕ) (regs : List ℕ) → i < length regs → written high (cleared i regs) i 0 ≡ cleared (i + 1) regs
 cleared_more high i regs h =
-    let len : length (cleared i regs) ≡ length regs = length-cleared i regs (omega arith) in
-    let ok : can-hold high (cleared i regs) i 0 ≡ true = grind (arith, nat_tests) in
-    cond-true (can-hold high (cleared i regs) i 0) (set (cleared i regs) i 0) (cleared i regs) ok ∙ set-cleared i regs h
+    let len : length (cleared i regs) ≡ length regs = length_cleared i regs (omega arith) in
+    let ok : can_hold high (cleared i regs) i 0 ≡ true = grind (arith, nat_tests) in
+    cond-true (can_hold high (cleared i regs) i 0) (set (cleared i regs) i 0) (cleared i regs) ok ∙ set_cleared i regs h

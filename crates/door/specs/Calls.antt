@@ -1,10 +1,10 @@
 -- The calls on a gate: which are refused, what an accepted one yields, and what is answered.
 use Rattle.std.specs.Prelude.{ℕ, zero, suc, ◌+◌, ◌-◌, Bool, true, false, cond, not, ◌&&◌, ◌||◌, List, [], ◌∷◌, Some, None, Ok, Err, Option, Result, ◌==◌, nat_lt, slice_index_or, slice_set}
-use Rattle.door.specs.Limits.{visit-limit}
-use Rattle.door.specs.Positions.{phase-of, side-of, has-side, access_of, value_read, regs-after}
+use Rattle.door.specs.Limits.{visit_limit}
+use Rattle.door.specs.Positions.{phase_of, side_of, has_side, access_of, value_read, regs_after}
 use Rattle.door.specs.Arms.{no_arm, advanced}
 use Rattle.door.specs.Tallies.{tallied}
-use Rattle.door.specs.States.{State, is-arm, arm_at, phase-at, bit-of, with-table, with-arm}
+use Rattle.door.specs.States.{State, is_arm, arm_at, phase_at, bit_of, with_table, with_arm}
 use Rattle.door.specs.declared.access.Access.{Access}
 use Rattle.door.specs.declared.arm.Arm.{Arm}
 use Rattle.door.specs.declared.call.Call.{Call}
@@ -19,79 +19,79 @@ use Rattle.door.specs.declared.refusal.Refusal.{Refusal}
 use Rattle.door.specs.declared.refusal.Refusal.TheVariants as R
 
 -- why a call is refused; none where it is accepted
-abbrev pub begin-refusal : Phase → ℕ → Option Refusal
-begin-refusal P.I visits = cond (nat_lt visits visit-limit) None (Some R.Worn)
-begin-refusal P.D visits = Some R.Busy
-begin-refusal P.W visits = Some R.Busy
-begin-refusal P.F visits = Some R.Busy
-begin-refusal P.X visits = Some R.Busy
+abbrev pub begin_refusal : Phase → ℕ → Option Refusal
+begin_refusal P.I visits = cond (nat_lt visits visit_limit) None (Some R.Worn)
+begin_refusal P.D visits = Some R.Busy
+begin_refusal P.W visits = Some R.Busy
+begin_refusal P.F visits = Some R.Busy
+begin_refusal P.X visits = Some R.Busy
 
-abbrev pub step-refusal : Phase → Option Refusal
-step-refusal P.I = Some R.Idle
-step-refusal P.D = None
-step-refusal P.W = None
-step-refusal P.F = Some R.Inside
-step-refusal P.X = None
+abbrev pub step_refusal : Phase → Option Refusal
+step_refusal P.I = Some R.Idle
+step_refusal P.D = None
+step_refusal P.W = None
+step_refusal P.F = Some R.Inside
+step_refusal P.X = None
 
-abbrev pub admit-refusal : Phase → Bool → Option Refusal
-admit-refusal P.I out = Some R.Elsewhere
-admit-refusal P.D out = Some R.Elsewhere
-admit-refusal P.W out = Some R.Elsewhere
-admit-refusal P.F out = cond out (Some R.Taken) None
-admit-refusal P.X out = Some R.Elsewhere
+abbrev pub admit_refusal : Phase → Bool → Option Refusal
+admit_refusal P.I out = Some R.Elsewhere
+admit_refusal P.D out = Some R.Elsewhere
+admit_refusal P.W out = Some R.Elsewhere
+admit_refusal P.F out = cond out (Some R.Taken) None
+admit_refusal P.X out = Some R.Elsewhere
 
-abbrev pub way-refusal : Phase → Option Refusal
-way-refusal P.I = Some R.Elsewhere
-way-refusal P.D = Some R.Elsewhere
-way-refusal P.W = None
-way-refusal P.F = Some R.Elsewhere
-way-refusal P.X = Some R.Elsewhere
+abbrev pub way_refusal : Phase → Option Refusal
+way_refusal P.I = Some R.Elsewhere
+way_refusal P.D = Some R.Elsewhere
+way_refusal P.W = None
+way_refusal P.F = Some R.Elsewhere
+way_refusal P.X = Some R.Elsewhere
 
 -- a pass of this gate whose arm has its pass out
 abbrev pub knows : State → ℕ → ℕ → Bool
-knows s gate i = gate == s.number && (is-arm s i && (arm_at s i).out)
+knows s gate i = gate == s.number && (is_arm s i && (arm_at s i).out)
 
 -- no such arm comes before all else
-abbrev pub for-arm : State → ℕ → Option Refusal → Option Refusal
-for-arm s i more = cond (is-arm s i) more (Some R.NoArm)
+abbrev pub for_arm : State → ℕ → Option Refusal → Option Refusal
+for_arm s i more = cond (is_arm s i) more (Some R.NoArm)
 
-abbrev pub refusal-of : State → Call → Option Refusal
-refusal-of s (begin i) = for-arm s i (begin-refusal (phase-at s i) (arm_at s i).visits)
-refusal-of s (step i) = for-arm s i (step-refusal (phase-at s i))
-refusal-of s (admit i) = for-arm s i (admit-refusal (phase-at s i) (arm_at s i).out)
-refusal-of s (confirm gate i) = None
-refusal-of s (leave gate i) = cond (knows s gate i) None (Some R.StrangePass)
-refusal-of s (look i) = for-arm s i None
-refusal-of s (tally w b) = for-arm s w (for-arm s b None)
-refusal-of s (way i) = for-arm s i (way-refusal (phase-at s i))
+abbrev pub refusal_of : State → Call → Option Refusal
+refusal_of s (begin i) = for_arm s i (begin_refusal (phase_at s i) (arm_at s i).visits)
+refusal_of s (step i) = for_arm s i (step_refusal (phase_at s i))
+refusal_of s (admit i) = for_arm s i (admit_refusal (phase_at s i) (arm_at s i).out)
+refusal_of s (confirm gate i) = None
+refusal_of s (leave gate i) = cond (knows s gate i) None (Some R.StrangePass)
+refusal_of s (look i) = for_arm s i None
+refusal_of s (tally w b) = for_arm s w (for_arm s b None)
+refusal_of s (way i) = for_arm s i (way_refusal (phase_at s i))
 
 -- a record with another position, count of visits and mark
-abbrev pub with-visit : Position → ℕ → Bool → Arm → Arm
-with-visit p v o a = record { position = p; side = a.side; visits = v; out = o; row = a.row; notes = a.notes }
+abbrev pub with_visit : Position → ℕ → Bool → Arm → Arm
+with_visit p v o a = record { position = p; side = a.side; visits = v; out = o; row = a.row; notes = a.notes }
 
 -- the access of arm i
-abbrev pub access-at : State → ℕ → Access
-access-at s i = access_of i (side-of (arm_at s i).side) (arm_at s i).position
+abbrev pub access_at : State → ℕ → Access
+access_at s i = access_of i (side_of (arm_at s i).side) (arm_at s i).position
 
 -- the record of arm i after its access
-abbrev pub arm-after : State → ℕ → Arm
-arm-after s i = advanced s.n (value_read s.regs (access-at s i)) (arm_at s i)
+abbrev pub arm_after : State → ℕ → Arm
+arm_after s i = advanced s.n (value_read s.regs (access_at s i)) (arm_at s i)
 
 -- one access, one record moved on, and the rows that tell of it
 abbrev pub stepped : ℕ → State → State
 stepped i s =
-    with-table
-    (regs-after s.high s.regs (access-at s i))
-    (tallied (i - 1) (phase-at s i) (phase-of (arm-after s i).position) (slice_set s.arms (i - 1) (arm-after s i)))
+    with_table
+    (regs_after s.high s.regs (access_at s i))
+    (tallied (i - 1) (phase_at s i) (phase_of (arm_after s i).position) (slice_set s.arms (i - 1) (arm_after s i)))
     s
 
 -- what an accepted call yields
 abbrev pub done : State → Call → State
-done s (begin i) = with-arm i (with-visit (At.Doorway D1) ((arm_at s i).visits + 1) (arm_at s i).out (arm_at s i)) s
+done s (begin i) = with_arm i (with_visit (At.Doorway D1) ((arm_at s i).visits + 1) (arm_at s i).out (arm_at s i)) s
 done s (step i) = stepped i s
-done s (admit i) = with-arm i (with-visit (arm_at s i).position (arm_at s i).visits true (arm_at s i)) s
+done s (admit i) = with_arm i (with_visit (arm_at s i).position (arm_at s i).visits true (arm_at s i)) s
 done s (confirm gate i) = s
-done s (leave gate i) = with-arm i (with-visit (At.Leaving X1) (arm_at s i).visits false (arm_at s i)) s
+done s (leave gate i) = with_arm i (with_visit (At.Leaving X1) (arm_at s i).visits false (arm_at s i)) s
 done s (look i) = s
 done s (tally w b) = s
 done s (way i) = s
@@ -103,7 +103,7 @@ unless (Some r) new old = old
 
 -- a refused call alters nothing
 abbrev pub after : State → Call → State
-after s c = unless (refusal-of s c) (done s c) s
+after s c = unless (refusal_of s c) (done s c) s
 
 -- a list of calls, one after another
 abbrev pub run : State → List Call → State
@@ -116,17 +116,17 @@ answered None x = Ok x
 answered (Some r) x = Err r
 
 -- whether one of the first k arms has side t
-abbrev pub some-side : ℕ → List Arm → ℕ → Bool
-some-side t arms zero = false
-some-side t arms (suc k) = has-side t (slice_index_or arms k no_arm).side || some-side t arms k
+abbrev pub some_side : ℕ → List Arm → ℕ → Bool
+some_side t arms zero = false
+some_side t arms (suc k) = has_side t (slice_index_or arms k no_arm).side || some_side t arms k
 
 -- the group differs from a side, or no arm has the other side
-abbrev pub free-for : State → ℕ → Bool
-free-for s side = not (bit-of s == side) || not (some-side (1 - side) s.arms s.n)
+abbrev pub free_for : State → ℕ → Bool
+free_for s side = not (bit_of s == side) || not (some_side (1 - side) s.arms s.n)
 
 -- what way tells of a waiting arm
-abbrev pub has-way : State → ℕ → Bool
-has-way s i = free-for s (side-of (arm_at s i).side)
+abbrev pub has_way : State → ℕ → Bool
+has_way s i = free_for s (side_of (arm_at s i).side)
 
-abbrev pub way-answer : State → ℕ → Result Bool Refusal
-way-answer s i = answered (refusal-of s (way i)) (has-way s i)
+abbrev pub way_answer : State → ℕ → Result Bool Refusal
+way_answer s i = answered (refusal_of s (way i)) (has_way s i)

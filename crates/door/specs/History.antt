@@ -1,9 +1,9 @@
 -- What a list of calls tells of the arms, from a state on.
 use Rattle.std.specs.Prelude.{◌≡◌, ℕ, zero, suc, ◌+◌, ◌*◌, Bool, true, false, cond, not, ◌&&◌, T, ◌⊎◌, List, [], ◌∷◌, ◌++◌, Some, None, Option, ◌==◌, slice_index}
 use Rattle.door.specs.Positions.{group}
-use Rattle.door.specs.Tallies.{same-phase}
-use Rattle.door.specs.States.{State, is-arm, phase-at}
-use Rattle.door.specs.Calls.{refusal-of, access-at, after, run}
+use Rattle.door.specs.Tallies.{same_phase}
+use Rattle.door.specs.States.{State, is_arm, phase_at}
+use Rattle.door.specs.Calls.{refusal_of, access_at, after, run}
 use Rattle.door.specs.declared.access.Access.{Access}
 use Rattle.door.specs.declared.access.Access.TheVariants.{Nothing, Read, Write}
 use Rattle.door.specs.declared.call.Call.{Call}
@@ -12,20 +12,20 @@ use Rattle.door.specs.declared.position.Phase.{Phase}
 use Rattle.door.specs.declared.position.Phase.TheVariants as P
 use Rattle.door.specs.declared.refusal.Refusal.{Refusal}
 
-abbrev pub no-refusal : Option Refusal → Bool
-no-refusal None = true
-no-refusal (Some r) = false
+abbrev pub no_refusal : Option Refusal → Bool
+no_refusal None = true
+no_refusal (Some r) = false
 
 abbrev pub accepted : State → Call → Bool
-accepted s c = no-refusal (refusal-of s c)
+accepted s c = no_refusal (refusal_of s c)
 
 -- arm i is in a phase
-abbrev pub is-in : Phase → State → ℕ → Bool
-is-in p s i = same-phase (phase-at s i) p
+abbrev pub is_in : Phase → State → ℕ → Bool
+is_in p s i = same_phase (phase_at s i) p
 
 -- an arm of the gate that waits
 abbrev pub Waits : State → ℕ → Type 0
-Waits s w = T (is-arm s w && is-in P.W s w)
+Waits s w = T (is_arm s w && is_in P.W s w)
 
 -- a step of arm b
 abbrev pub step_of : ℕ → Call → Bool
@@ -39,88 +39,88 @@ step_of b (tally i k) = false
 step_of b (way i) = false
 
 -- a step, admit or leave of arm b
-abbrev pub move-of : ℕ → Call → Bool
-move-of b (begin i) = false
-move-of b (step i) = i == b
-move-of b (admit i) = i == b
-move-of b (confirm g i) = false
-move-of b (leave g i) = i == b
-move-of b (look i) = false
-move-of b (tally i k) = false
-move-of b (way i) = false
+abbrev pub move_of : ℕ → Call → Bool
+move_of b (begin i) = false
+move_of b (step i) = i == b
+move_of b (admit i) = i == b
+move_of b (confirm g i) = false
+move_of b (leave g i) = i == b
+move_of b (look i) = false
+move_of b (tally i k) = false
+move_of b (way i) = false
 
 -- an accepted step of arm b; an accepted step, admit or leave of it
 abbrev pub steps : ℕ → State → Call → Bool
 steps b s c = accepted s c && step_of b c
 
 abbrev pub moves : ℕ → State → Call → Bool
-moves b s c = accepted s c && move-of b c
+moves b s c = accepted s c && move_of b c
 
 -- a call that is a step of b and takes it from phase p to phase q
 abbrev pub goes : Phase → Phase → ℕ → State → Call → Bool
-goes p q b s c = steps b s c && (is-in p s b && is-in q (after s c) b)
+goes p q b s c = steps b s c && (is_in p s b && is_in q (after s c) b)
 
-abbrev pub goes-inside : ℕ → State → Call → Bool
-goes-inside = goes P.W P.F
+abbrev pub goes_inside : ℕ → State → Call → Bool
+goes_inside = goes P.W P.F
 
 -- the last step of a doorway, at D5
-abbrev pub ends-doorway : ℕ → State → Call → Bool
-ends-doorway = goes P.D P.W
+abbrev pub ends_doorway : ℕ → State → Call → Bool
+ends_doorway = goes P.D P.W
 
 -- an access that reads the group
-abbrev pub of-group : Access → Bool
-of-group Nothing = false
-of-group (Read q) = q == group
-of-group (Write q v) = false
+abbrev pub of_group : Access → Bool
+of_group Nothing = false
+of_group (Read q) = q == group
+of_group (Write q v) = false
 
 -- the doorway step that reads the group
-abbrev pub reads-group : ℕ → State → Call → Bool
-reads-group w s c = steps w s c && (is-in P.D s w && of-group (access-at s w))
+abbrev pub reads_group : ℕ → State → Call → Bool
+reads_group w s c = steps w s c && (is_in P.D s w && of_group (access_at s w))
 
 -- the value of register 0 at w's latest doorway step that reads it, v if there is none
-abbrev pub latest-bit : ℕ → State → List Call → ℕ → ℕ
-latest-bit w s [] v = v
-latest-bit w s (c ∷ cs) v = latest-bit w (after s c) cs (cond (reads-group w s c) (slice_index s.regs group) v)
+abbrev pub latest_bit : ℕ → State → List Call → ℕ → ℕ
+latest_bit w s [] v = v
+latest_bit w s (c ∷ cs) v = latest_bit w (after s c) cs (cond (reads_group w s c) (slice_index s.regs group) v)
 
 -- how often b went inside after w's latest step at D5, counted on from k
-abbrev pub count-on : ℕ → ℕ → State → List Call → ℕ → ℕ
-count-on w b s [] k = k
-count-on w b s (c ∷ cs) k = count-on w b (after s c) cs (cond (ends-doorway w s c) 0 (cond (goes-inside b s c) (k + 1) k))
+abbrev pub count_on : ℕ → ℕ → State → List Call → ℕ → ℕ
+count_on w b s [] k = k
+count_on w b s (c ∷ cs) k = count_on w b (after s c) cs (cond (ends_doorway w s c) 0 (cond (goes_inside b s c) (k + 1) k))
 
 -- whether b was idle at w's latest step at D5, o if there is none
-abbrev pub latest-idle : ℕ → ℕ → State → List Call → Bool → Bool
-latest-idle w b s [] o = o
-latest-idle w b s (c ∷ cs) o = latest-idle w b (after s c) cs (cond (ends-doorway w s c) (is-in P.I s b) o)
+abbrev pub latest_idle : ℕ → ℕ → State → List Call → Bool → Bool
+latest_idle w b s [] o = o
+latest_idle w b s (c ∷ cs) o = latest_idle w b (after s c) cs (cond (ends_doorway w s c) (is_in P.I s b) o)
 
 -- from the making on: the bit that w read, the entries of b since w ended its doorway, and whether b was idle then
-abbrev pub bit-read : ℕ → State → List Call → ℕ
-bit-read w start past = latest-bit w start past 0
+abbrev pub bit_read : ℕ → State → List Call → ℕ
+bit_read w start past = latest_bit w start past 0
 
-abbrev pub entries-since : ℕ → ℕ → State → List Call → ℕ
-entries-since w b start past = count-on w b start past 0
+abbrev pub entries_since : ℕ → ℕ → State → List Call → ℕ
+entries_since w b start past = count_on w b start past 0
 
 abbrev pub idle_then : ℕ → ℕ → State → List Call → Bool
-idle_then w b start past = latest-idle w b start past false
+idle_then w b start past = latest_idle w b start past false
 
 -- w goes inside at some call of the list
 abbrev pub GoesInside : ℕ → State → List Call → Type 0
 GoesInside w s [] = ⊥
-GoesInside w s (c ∷ cs) = T (goes-inside w s c) ⊎ GoesInside w (after s c) cs
+GoesInside w s (c ∷ cs) = T (goes_inside w s c) ⊎ GoesInside w (after s c) cs
 
 -- how many accepted steps of w the list has
-abbrev pub steps-in : ℕ → State → List Call → ℕ
-steps-in w s [] = 0
-steps-in w s (c ∷ cs) = cond (steps w s c) 1 0 + steps-in w (after s c) cs
+abbrev pub steps_in : ℕ → State → List Call → ℕ
+steps_in w s [] = 0
+steps_in w s (c ∷ cs) = cond (steps w s c) 1 0 + steps_in w (after s c) cs
 
 -- no other arm is in its doorway at any of them
 abbrev pub NoOtherInDoorway : ℕ → State → List Call → Type 0
 NoOtherInDoorway w s [] = Unit {0}
 NoOtherInDoorway w s (c ∷ cs) =
-    (T (steps w s c) → (k : ℕ) → T (is-arm s k) → T (is-in P.D s k) → k ≡ w) × NoOtherInDoorway w (after s c) cs
+    (T (steps w s c) → (k : ℕ) → T (is_arm s k) → T (is_in P.D s k) → k ≡ w) × NoOtherInDoorway w (after s c) cs
 
 -- 8 n steps take it inside, whatever else is called, if no other arm is in its doorway at any of them
 abbrev pub RightOfWay : State → ℕ → Type 0
-RightOfWay s w = (cs : List Call) → steps-in w s cs ≡ 8 * s.n → NoOtherInDoorway w s cs → GoesInside w s cs
+RightOfWay s w = (cs : List Call) → steps_in w s cs ≡ 8 * s.n → NoOtherInDoorway w s cs → GoesInside w s cs
 
 -- b has an accepted step, admit or leave in the list
 abbrev pub Moves : ℕ → State → List Call → Type 0
@@ -129,7 +129,7 @@ Moves b s (c ∷ cs) = T (moves b s c) ⊎ Moves b (after s c) cs
 
 -- a round: every arm that is not idle at its start moves in it
 abbrev pub Round : State → List Call → Type 0
-Round s cs = (b : ℕ) → T (is-arm s b) → T (not (is-in P.I s b)) → Moves b s cs
+Round s cs = (b : ℕ) → T (is_arm s b) → T (not (is_in P.I s b)) → Moves b s cs
 
 -- a list that can be cut into k rounds
 abbrev pub Rounds : ℕ → State → List Call → Type 0

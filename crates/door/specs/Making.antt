@@ -1,6 +1,6 @@
 -- How many arms a bank has room for, and its registers when a gate is made.
 use Rattle.std.specs.Prelude.{ℕ, zero, suc, ◌+◌, ◌*◌, min, cond, List, ◌++◌, drop, replicate, ◌==◌, nat_le}
-use Rattle.door.specs.Limits.{arm-limit}
+use Rattle.door.specs.Limits.{arm_limit}
 
 -- how many registers n arms take
 abbrev pub room : ℕ → ℕ
@@ -12,13 +12,13 @@ largest len zero = 0
 largest len (suc k) = cond (nat_le (room (suc k)) len) (suc k) (largest len k)
 
 -- the arm count of a gate over a bank of len registers, none above high
-abbrev pub arms-for : ℕ → ℕ → ℕ → ℕ
-arms-for high len wanted = cond (high == 0) 0 (largest len (min wanted arm-limit))
+abbrev pub arms_for : ℕ → ℕ → ℕ → ℕ
+arms_for high len wanted = cond (high == 0) 0 (largest len (min wanted arm_limit))
 
 -- the first k registers made 0
 abbrev pub cleared : ℕ → List ℕ → List ℕ
 cleared k regs = replicate k 0 ++ drop k regs
 
 -- the registers of a gate just made
-abbrev pub made-regs : ℕ → List ℕ → List ℕ
-made-regs n regs = cond (n == 0) regs (cleared (room n) regs)
+abbrev pub made_regs : ℕ → List ℕ → List ℕ
+made_regs n regs = cond (n == 0) regs (cleared (room n) regs)

@@ -13,54 +13,54 @@ use Rattle.door.specs.declared.position.Position.{Position}
 use Rattle.door.specs.declared.position.Position.TheVariants.{Idle, Doorway, Waiting, Inside, Leaving}
 
 -- the phase of a position, and its letter
-abbrev pub phase-of : Position → Phase
-phase-of Idle = P.I
-phase-of (Doorway d) = P.D
-phase-of (Waiting j p) = P.W
-phase-of Inside = P.F
-phase-of (Leaving x) = P.X
+abbrev pub phase_of : Position → Phase
+phase_of Idle = P.I
+phase_of (Doorway d) = P.D
+phase_of (Waiting j p) = P.W
+phase_of Inside = P.F
+phase_of (Leaving x) = P.X
 
-abbrev pub letter-of : Phase → ℕ
-letter-of P.I = 73
-letter-of P.D = 68
-letter-of P.W = 87
-letter-of P.F = 70
-letter-of P.X = 88
+abbrev pub letter_of : Phase → ℕ
+letter_of P.I = 73
+letter_of P.D = 68
+letter_of P.W = 87
+letter_of P.F = 70
+letter_of P.X = 88
 
 -- the registers: the group, and three for each arm
 abbrev pub group : ℕ
 group = 0
 
-abbrev pub choosing-of : ℕ → ℕ
-choosing-of i = 3 * i - 2
+abbrev pub choosing_of : ℕ → ℕ
+choosing_of i = 3 * i - 2
 
-abbrev pub mygroup-of : ℕ → ℕ
-mygroup-of i = 3 * i - 1
+abbrev pub mygroup_of : ℕ → ℕ
+mygroup_of i = 3 * i - 1
 
-abbrev pub flag-of : ℕ → ℕ
-flag-of i = 3 * i
+abbrev pub flag_of : ℕ → ℕ
+flag_of i = 3 * i
 
 -- the register that a waiting arm reads, looking at arm j
 abbrev pub read_by : ℕ → Place → ℕ
 read_by j W1 = group
-read_by j W2 = choosing-of j
-read_by j W3 = mygroup-of j
-read_by j W4 = flag-of j
+read_by j W2 = choosing_of j
+read_by j W3 = mygroup_of j
+read_by j W4 = flag_of j
 read_by j W5 = group
-read_by j W6 = mygroup-of j
+read_by j W6 = mygroup_of j
 
 -- the one access of arm i with a side
 abbrev pub access_of : ℕ → ℕ → Position → Access
 access_of i side Idle = Nothing
-access_of i side (Doorway D1) = Write (choosing-of i) 1
+access_of i side (Doorway D1) = Write (choosing_of i) 1
 access_of i side (Doorway D2) = Read group
-access_of i side (Doorway D3) = Write (mygroup-of i) side
-access_of i side (Doorway D4) = Write (flag-of i) 1
-access_of i side (Doorway D5) = Write (choosing-of i) 0
+access_of i side (Doorway D3) = Write (mygroup_of i) side
+access_of i side (Doorway D4) = Write (flag_of i) 1
+access_of i side (Doorway D5) = Write (choosing_of i) 0
 access_of i side (Waiting j p) = Read (read_by j p)
 access_of i side Inside = Nothing
 access_of i side (Leaving X1) = Write group (1 - side)
-access_of i side (Leaving X2) = Write (flag-of i) 0
+access_of i side (Leaving X2) = Write (flag_of i) 0
 
 -- what an access reads, 0 where it reads nothing or the bank has no such register
 abbrev pub value_read : List ℕ → Access → ℕ
@@ -69,10 +69,10 @@ value_read regs (Read q) = slice_index regs q
 value_read regs (Write q v) = 0
 
 -- the registers after an access
-abbrev pub regs-after : ℕ → List ℕ → Access → List ℕ
-regs-after high regs Nothing = regs
-regs-after high regs (Read q) = regs
-regs-after high regs (Write q v) = written high regs q v
+abbrev pub regs_after : ℕ → List ℕ → Access → List ℕ
+regs_after high regs Nothing = regs
+regs_after high regs (Read q) = regs
+regs_after high regs (Write q v) = written high regs q v
 
 -- next: W1 at j + 1, or inside after the last arm
 abbrev pub onward : ℕ → ℕ → Position
@@ -114,11 +114,11 @@ side_after v (Leaving X1) s = s
 side_after v (Leaving X2) s = None
 
 -- a side as a number, 0 where it is missing
-abbrev pub side-of : Option ℕ → ℕ
-side-of (Some s) = s
-side-of None = 0
+abbrev pub side_of : Option ℕ → ℕ
+side_of (Some s) = s
+side_of None = 0
 
 -- whether a side is t
-abbrev pub has-side : ℕ → Option ℕ → Bool
-has-side t (Some s) = s == t
-has-side t None = false
+abbrev pub has_side : ℕ → Option ℕ → Bool
+has_side t (Some s) = s == t
+has_side t None = false

@@ -1,9 +1,9 @@
 -- The state of a gate.
 use Rattle.std.specs.Prelude.{ℕ, ◌-◌, Bool, cond, ◌&&◌, List, length, replicate, ◌==◌, nat_le, slice_index, slice_index_or, slice_set}
-use Rattle.door.specs.Limits.{arm-limit}
-use Rattle.door.specs.Positions.{group, phase-of}
+use Rattle.door.specs.Limits.{arm_limit}
+use Rattle.door.specs.Positions.{group, phase_of}
 use Rattle.door.specs.Arms.{fresh, no_arm}
-use Rattle.door.specs.Making.{made-regs, arms-for}
+use Rattle.door.specs.Making.{made_regs, arms_for}
 use Rattle.door.specs.declared.arm.Arm.{Arm}
 use Rattle.door.specs.declared.position.Phase.{Phase}
 
@@ -22,28 +22,28 @@ made high number wanted regs =
     record {
       high = high;
       number = number;
-      n = arms-for high (length regs) wanted;
-      regs = made-regs (arms-for high (length regs) wanted) regs;
-      arms = replicate arm-limit fresh;
+      n = arms_for high (length regs) wanted;
+      regs = made_regs (arms_for high (length regs) wanted) regs;
+      arms = replicate arm_limit fresh;
     }
 
-abbrev pub is-arm : State → ℕ → Bool
-is-arm s i = nat_le 1 i && nat_le i s.n
+abbrev pub is_arm : State → ℕ → Bool
+is_arm s i = nat_le 1 i && nat_le i s.n
 
 abbrev pub arm_at : State → ℕ → Arm
 arm_at s i = slice_index_or s.arms (i - 1) no_arm
 
-abbrev pub phase-at : State → ℕ → Phase
-phase-at s i = phase-of (arm_at s i).position
+abbrev pub phase_at : State → ℕ → Phase
+phase_at s i = phase_of (arm_at s i).position
 
 -- other registers and records
-abbrev pub with-table : List ℕ → List Arm → State → State
-with-table regs arms s = record { high = s.high; number = s.number; n = s.n; regs = regs; arms = arms }
+abbrev pub with_table : List ℕ → List Arm → State → State
+with_table regs arms s = record { high = s.high; number = s.number; n = s.n; regs = regs; arms = arms }
 
 -- another record for arm i
-abbrev pub with-arm : ℕ → Arm → State → State
-with-arm i a s = with-table s.regs (slice_set s.arms (i - 1) a) s
+abbrev pub with_arm : ℕ → Arm → State → State
+with_arm i a s = with_table s.regs (slice_set s.arms (i - 1) a) s
 
 -- the group bit; 0 where the gate has no arms
-abbrev pub bit-of : State → ℕ
-bit-of s = cond (s.n == 0) 0 (slice_index s.regs group)
+abbrev pub bit_of : State → ℕ
+bit_of s = cond (s.n == 0) 0 (slice_index s.regs group)

@@ -1,5 +1,5 @@
 ghost use Rattle.std.specs.Prelude.{◌≡◌, slice_index};
-ghost use Rattle.door.specs.Positions.{value_read, regs-after};
+ghost use Rattle.door.specs.Positions.{value_read, regs_after};
 
 use bank::interface::Bank;
 
@@ -25,7 +25,7 @@ impl Access {
     // Makes the access, and answers the value read; 0 where none is read.
     pub fn make<B: Bank>(self, bank: &mut B) -> u64
         ensures value { result ≡ value_read (B.values bank.old) self }
-        ensures after { B.values bank.new ≡ regs-after B.highest (B.values bank.old) self }
+        ensures after { B.values bank.new ≡ regs_after B.highest (B.values bank.old) self }
     {
         match self {
             Access::Nothing => 0,

@@ -1,5 +1,5 @@
 ghost use Rattle.std.specs.Prelude.{◌≡◌};
-ghost use Rattle.door.specs.Positions.{side-of, has-side, onward};
+ghost use Rattle.door.specs.Positions.{side_of, has_side, onward};
 ghost use Rattle.door.specs.Arms.{advanced, sided};
 
 use crate::position::{Doorway, Exit, Place, Position};
@@ -37,7 +37,7 @@ fn next_arm(n: u8, j: u8) -> Position
 impl Arm {
     // The side as a number, 0 where it is missing.
     pub fn side_value(&self) -> u64
-        ensures { result ≡ side-of self.now.side }
+        ensures { result ≡ side_of self.now.side }
     {
         match self.side {
             Some(side) => side,
@@ -47,7 +47,7 @@ impl Arm {
 
     // Whether the arm has side t.
     pub fn has_side(&self, t: u64) -> bool
-        ensures { result ≡ has-side t self.now.side }
+        ensures { result ≡ has_side t self.now.side }
     {
         match self.side {
             Some(side) => side == t,

@@ -1,5 +1,5 @@
 ghost use Rattle.std.specs.Prelude.{◌≡◌};
-ghost use Rattle.door.specs.Positions.{choosing-of, mygroup-of, flag-of, phase-of, letter-of, read_by, access_of};
+ghost use Rattle.door.specs.Positions.{choosing_of, mygroup_of, flag_of, phase_of, letter_of, read_by, access_of};
 
 use crate::access::Access;
 
@@ -15,7 +15,7 @@ pub enum Phase {
 
 impl Phase {
     pub fn letter(self) -> u8
-        ensures { result ≡ letter-of self }
+        ensures { result ≡ letter_of self }
     {
         match self {
             Phase::I => b'I',
@@ -70,19 +70,19 @@ pub const GROUP: usize = 0;
 
 // The three registers of arm i.
 fn choosing(i: u8) -> usize
-    ensures { result ≡ choosing-of i }
+    ensures { result ≡ choosing_of i }
 {
     (3 * usize::from(i)).saturating_sub(2)
 }
 
 fn mygroup(i: u8) -> usize
-    ensures { result ≡ mygroup-of i }
+    ensures { result ≡ mygroup_of i }
 {
     (3 * usize::from(i)).saturating_sub(1)
 }
 
 fn flag(i: u8) -> usize
-    ensures { result ≡ flag-of i }
+    ensures { result ≡ flag_of i }
 {
     3 * usize::from(i)
 }
@@ -103,7 +103,7 @@ impl Place {
 
 impl Position {
     pub fn phase(self) -> Phase
-        ensures { result ≡ phase-of self }
+        ensures { result ≡ phase_of self }
     {
         match self {
             Position::Idle => Phase::I,

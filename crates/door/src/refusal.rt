@@ -1,5 +1,5 @@
 ghost use Rattle.std.specs.Prelude.{◌≡◌};
-ghost use Rattle.door.specs.Refusals.{refusal-number};
+ghost use Rattle.door.specs.Refusals.{refusal_number};
 
 // Why the gate says no.
 #[derive(Clone, Copy)]
@@ -25,7 +25,7 @@ pub enum Refusal {
 impl Refusal {
     // The number by which a refusal is known.
     pub fn number(self) -> u8
-        ensures { result ≡ refusal-number self }
+        ensures { result ≡ refusal_number self }
     {
         match self {
             Refusal::NoArm => 1,

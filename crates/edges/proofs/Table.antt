@@ -3,151 +3,151 @@ use Rattle.std.proofs.Common.{◌≡◌, ℕ, zero, suc, ◌<◌, ◌≤◌, Boo
 use Rattle.std.specs.Str.{bytes_eq}
 use Rattle.std.proofs.lemmas.Slice.Eq.{bytes_eq-Decides}
 use Rattle.std.proofs.lemmas.Bool.{and_parts, not-true, eqb-true, false≢true, cond-true, le-leb}
-use Rattle.schedule.specs.Faults.{fault-number, fault-place, fault-order, fault-layer}
-use Rattle.schedule.specs.Limits.{file-limit}
-use Rattle.schedule.specs.Numbers.{groups, number-from}
+use Rattle.schedule.specs.Faults.{fault_number, fault_place, fault_order, fault_layer}
+use Rattle.schedule.specs.Limits.{file_limit}
+use Rattle.schedule.specs.Numbers.{groups, number_from}
 use Rattle.schedule.specs.declared.number.Number.{Number}
-use Rattle.schedule.specs.Reading.{Contents, contents, says, orders-from}
+use Rattle.schedule.specs.Reading.{Contents, contents, says, orders_from}
 use Rattle.schedule.specs.declared.fault.PlayFault.{PlayFault}
-use Rattle.door.specs.Calls.{refusal-of, way-answer}
-use Rattle.gate.specs.Answers.{tally-answer}
-use Rattle.door.specs.Making.{arms-for, largest}
-use Rattle.door.specs.Refusals.{refusal-number}
+use Rattle.door.specs.Calls.{refusal_of, way_answer}
+use Rattle.gate.specs.Answers.{tally_answer}
+use Rattle.door.specs.Making.{arms_for, largest}
+use Rattle.door.specs.Refusals.{refusal_number}
 use Rattle.gate.specs.declared.gate.Tally.{Tally}
 use Rattle.door.specs.declared.refusal.Refusal.{Refusal}
-use Rattle.play.specs.Limits.{report-room}
-use Rattle.play.specs.Playing.{playable, play-answer, play-memory, play-text}
-use Rattle.play.specs.Reports.{fault-text, layer-word}
+use Rattle.play.specs.Limits.{report_room}
+use Rattle.play.specs.Playing.{playable, play_answer, play_memory, play_text}
+use Rattle.play.specs.Reports.{fault_text, layer_word}
 use Rattle.play.specs.Text.{digits, decimal, overwritten}
-use Rattle.edges.specs.Cases.{Case, writes, reads, opens, fails, tells, plays, gives, accepts, refuses, frees, counts, highest, registers, Plays, Holds, table, Every-case}
+use Rattle.edges.specs.Cases.{Case, writes, reads, opens, fails, tells, plays, gives, accepts, refuses, frees, counts, highest, registers, Plays, Holds, table, EveryCase}
 
 -- the answer is of one kind, and what it holds passes a test
-abbrev ok-test : {X E : Type 0} → (X → Bool) → Result X E → Bool
-ok-test p (Ok x) = p x
-ok-test p (Err e) = false
+abbrev ok_test : {X E : Type 0} → (X → Bool) → Result X E → Bool
+ok_test p (Ok x) = p x
+ok_test p (Err e) = false
 
-abbrev err-test : {X E : Type 0} → (E → Bool) → Result X E → Bool
-err-test p (Ok x) = false
-err-test p (Err e) = p e
+abbrev err_test : {X E : Type 0} → (E → Bool) → Result X E → Bool
+err_test p (Ok x) = false
+err_test p (Err e) = p e
 
-abbrev some-test : {X : Type 0} → (X → Bool) → Option X → Bool
-some-test p (Some x) = p x
-some-test p None = false
+abbrev some_test : {X : Type 0} → (X → Bool) → Option X → Bool
+some_test p (Some x) = p x
+some_test p None = false
 
-abbrev none-test : {X : Type 0} → Option X → Bool
-none-test (Some x) = false
-none-test None = true
+abbrev none_test : {X : Type 0} → Option X → Bool
+none_test (Some x) = false
+none_test None = true
 
-abbrev empty-test : {X : Type 0} → List X → Bool
-empty-test [] = true
-empty-test (x ∷ xs) = false
+abbrev empty_test : {X : Type 0} → List X → Bool
+empty_test [] = true
+empty_test (x ∷ xs) = false
 
 -- it is then an answer of that kind, and what the test shows holds of it
 module _ {X : Type 0} {P : X → Type 0} (p : X → Bool) (shows : (x : X) → p x ≡ true → P x) where
-  is_ok : {E : Type 0} (r : Result X E) → ok-test p r ≡ true → (x : X) × (r ≡ Ok x) × P x
+  is_ok : {E : Type 0} (r : Result X E) → ok_test p r ≡ true → (x : X) × (r ≡ Ok x) × P x
   is_ok (Ok x) t = (x, refl, shows x t)
   is_ok (Err e) t = absurd (false≢true t)
 
-  is_err : {Y : Type 0} (r : Result Y X) → err-test p r ≡ true → (x : X) × (r ≡ Err x) × P x
+  is_err : {Y : Type 0} (r : Result Y X) → err_test p r ≡ true → (x : X) × (r ≡ Err x) × P x
   is_err (Ok y) t = absurd (false≢true t)
   is_err (Err x) t = (x, refl, shows x t)
 
-  is_some : (o : Option X) → some-test p o ≡ true → (x : X) × (o ≡ Some x) × P x
+  is_some : (o : Option X) → some_test p o ≡ true → (x : X) × (o ≡ Some x) × P x
   is_some (Some x) t = (x, refl, shows x t)
   is_some None t = absurd (false≢true t)
 
-is_none : {X : Type 0} (o : Option X) → none-test o ≡ true → o ≡ None
+is_none : {X : Type 0} (o : Option X) → none_test o ≡ true → o ≡ None
 is_none (Some x) t = absurd (false≢true t)
 is_none None t = refl
 
-is-empty : {X : Type 0} (xs : List X) → empty-test xs ≡ true → xs ≡ []
-is-empty [] t = refl
-is-empty (x ∷ xs) t = absurd (false≢true t)
+is_empty : {X : Type 0} (xs : List X) → empty_test xs ≡ true → xs ≡ []
+is_empty [] t = refl
+is_empty (x ∷ xs) t = absurd (false≢true t)
 
 same_bytes : (xs ys : List ℕ) → bytes_eq xs ys ≡ true → xs ≡ ys
 same_bytes xs ys t = (bytes_eq-Decides xs ys).0 t
 
 -- the tests of what the answers hold
-abbrev contents-test : ℕ → Contents → Bool
-contents-test arms c = eqb c.arms arms && empty-test c.orders
+abbrev contents_test : ℕ → Contents → Bool
+contents_test arms c = eqb c.arms arms && empty_test c.orders
 
-same-contents : (arms : ℕ) (c : Contents) → contents-test arms c ≡ true → c ≡ contents arms []
-same-contents arms c t =
-    let both = and_parts (eqb c.arms arms) (empty-test c.orders) t in
+same_contents : (arms : ℕ) (c : Contents) → contents_test arms c ≡ true → c ≡ contents arms []
+same_contents arms c t =
+    let both = and_parts (eqb c.arms arms) (empty_test c.orders) t in
     let a = eqb-true c.arms arms both.0 in
-    let o = is-empty c.orders both.1 in
+    let o = is_empty c.orders both.1 in
     λ i. contents (a i) (o i)
 
-abbrev number-read-test : ℕ → ℕ → Number → Bool
-number-read-test value next n = eqb n.value value && eqb n.next next
+abbrev number_read_test : ℕ → ℕ → Number → Bool
+number_read_test value next n = eqb n.value value && eqb n.next next
 
-same_number : (value next : ℕ) (n : Number) → number-read-test value next n ≡ true → n ≡ record { value = value; next = next }
+same_number : (value next : ℕ) (n : Number) → number_read_test value next n ≡ true → n ≡ record { value = value; next = next }
 same_number value next n t =
     let both = and_parts (eqb n.value value) (eqb n.next next) t in
     let v = eqb-true n.value value both.0 in
     let e = eqb-true n.next next both.1 in
     λ i. record { value = v i; next = e i }
 
-abbrev fault-test : ℕ → ℕ → ℕ → List ℕ → PlayFault → Bool
-fault-test number place order layer f =
-    eqb (fault-number f) number
-    && (eqb (fault-place f) place && (eqb (fault-order f) order && bytes_eq (layer-word (fault-layer f)) layer))
+abbrev fault_test : ℕ → ℕ → ℕ → List ℕ → PlayFault → Bool
+fault_test number place order layer f =
+    eqb (fault_number f) number
+    && (eqb (fault_place f) place && (eqb (fault_order f) order && bytes_eq (layer_word (fault_layer f)) layer))
 
-same-fault : (number place order : ℕ) (layer : List ℕ) (f : PlayFault) → fault-test number place order layer f ≡ true
-    → (fault-number f ≡ number) × (fault-place f ≡ place) × (fault-order f ≡ order) × (layer-word (fault-layer f) ≡ layer)
-same-fault number place order layer f t =
-    let n = and_parts (eqb (fault-number f) number) _ t in
-    let p = and_parts (eqb (fault-place f) place) _ n.1 in
-    let o = and_parts (eqb (fault-order f) order) _ p.1 in
-    (eqb-true (fault-number f) number n.0, eqb-true (fault-place f) place p.0, eqb-true (fault-order f) order o.0, same_bytes _ layer o.1)
+same_fault : (number place order : ℕ) (layer : List ℕ) (f : PlayFault) → fault_test number place order layer f ≡ true
+    → (fault_number f ≡ number) × (fault_place f ≡ place) × (fault_order f ≡ order) × (layer_word (fault_layer f) ≡ layer)
+same_fault number place order layer f t =
+    let n = and_parts (eqb (fault_number f) number) _ t in
+    let p = and_parts (eqb (fault_place f) place) _ n.1 in
+    let o = and_parts (eqb (fault_order f) order) _ p.1 in
+    (eqb-true (fault_number f) number n.0, eqb-true (fault_place f) place p.0, eqb-true (fault_order f) order o.0, same_bytes _ layer o.1)
 
-abbrev line-test : List ℕ → PlayFault → Bool
-line-test line f = bytes_eq (fault-text f) line
+abbrev line_test : List ℕ → PlayFault → Bool
+line_test line f = bytes_eq (fault_text f) line
 
-abbrev report-test : List ℕ → Contents → Bool
-report-test text c = bytes_eq (play-text highest registers c) text
+abbrev report_test : List ℕ → Contents → Bool
+report_test text c = bytes_eq (play_text highest registers c) text
 
 abbrev same_bool : Bool → Bool → Bool
 same_bool true b = b
 same_bool false b = not b
 
-is-bool : (expected b : Bool) → same_bool expected b ≡ true → b ≡ expected
-is-bool true b t = t
-is-bool false b t = not-true b t
+is_bool : (expected b : Bool) → same_bool expected b ≡ true → b ≡ expected
+is_bool true b t = t
+is_bool false b t = not-true b t
 
-abbrev number-test : ℕ → Refusal → Bool
-number-test number r = eqb (refusal-number r) number
+abbrev number_test : ℕ → Refusal → Bool
+number_test number r = eqb (refusal_number r) number
 
-abbrev count-test : ℕ → Tally → Bool
-count-test times c = eqb c.count times
+abbrev count_test : ℕ → Tally → Bool
+count_test times c = eqb c.count times
 
 -- the test of a case
 abbrev test : Case → Bool
 test (writes number bytes) = bytes_eq (groups number) bytes
-test (reads bytes number) = ok-test (number-read-test number (length bytes)) (number-from 0 bytes)
-test (opens file arms) = ok-test (contents-test arms) (says file)
-test (fails file number place order layer) = err-test (fault-test number place order (codes layer)) (says file)
-test (tells file line) = err-test (line-test (codes line)) (says file)
-test (plays file text) = leb (length file) file-limit && ok-test (report-test (codes text)) (says file)
-test (gives room wanted arms) = eqb (arms-for highest room wanted) arms
-test (accepts s call) = none-test (refusal-of s call)
-test (refuses s call number) = some-test (number-test number) (refusal-of s call)
-test (frees s i free) = ok-test (same_bool free) (way-answer s i)
-test (counts s w b times) = ok-test (count-test times) (tally-answer s w b)
+test (reads bytes number) = ok_test (number_read_test number (length bytes)) (number_from 0 bytes)
+test (opens file arms) = ok_test (contents_test arms) (says file)
+test (fails file number place order layer) = err_test (fault_test number place order (codes layer)) (says file)
+test (tells file line) = err_test (line_test (codes line)) (says file)
+test (plays file text) = leb (length file) file_limit && ok_test (report_test (codes text)) (says file)
+test (gives room wanted arms) = eqb (arms_for highest room wanted) arms
+test (accepts s call) = none_test (refusal_of s call)
+test (refuses s call number) = some_test (number_test number) (refusal_of s call)
+test (frees s i free) = ok_test (same_bool free) (way_answer s i)
+test (counts s w b times) = ok_test (count_test times) (tally_answer s w b)
 
 -- a play with room for a report obeys what the file says
-played : (file memory : List ℕ) → leb (length file) file-limit ≡ true → report-room ≤ length memory → playable file (length memory) ≡ says file
-played file memory short room = cond-true _ _ _ short ∙ cond-true _ _ _ (le-leb report-room (length memory) room)
+played : (file memory : List ℕ) → leb (length file) file_limit ≡ true → report_room ≤ length memory → playable file (length memory) ≡ says file
+played file memory short room = cond-true _ _ _ short ∙ cond-true _ _ _ (le-leb report_room (length memory) room)
 
 -- and comes to its report
-same-report : (file text memory : List ℕ) (r : Result Contents PlayFault)
-    → ok-test (report-test text) r ≡ true → playable file (length memory) ≡ r → Plays file text memory
-same-report file text memory r t e =
-    let P : Contents → Type 0 = λ c. play-text highest registers c ≡ text in
-    let h = is_ok {P = P} (report-test text) (λ c. same_bytes (play-text highest registers c) text) r t in
+same_report : (file text memory : List ℕ) (r : Result Contents PlayFault)
+    → ok_test (report_test text) r ≡ true → playable file (length memory) ≡ r → Plays file text memory
+same_report file text memory r t e =
+    let P : Contents → Type 0 = λ c. play_text highest registers c ≡ text in
+    let h = is_ok {P = P} (report_test text) (λ c. same_bytes (play_text highest registers c) text) r t in
     record {
-      answer = ap (play-answer highest registers) (e ∙ h.1) ∙ ap (λ bytes. Ok (length bytes)) h.2;
-      report = ap (play-memory highest registers memory) (e ∙ h.1) ∙ ap (overwritten memory) h.2;
+      answer = ap (play_answer highest registers) (e ∙ h.1) ∙ ap (λ bytes. Ok (length bytes)) h.2;
+      report = ap (play_memory highest registers memory) (e ∙ h.1) ∙ ap (overwritten memory) h.2;
     }
 
 -- a case whose test passes holds
@@ -155,21 +155,21 @@ sound : (c : Case) → test c ≡ true → Holds c
 sound (writes number bytes) t = same_bytes (groups number) bytes t
 sound (reads bytes number) t =
     let N : Number = record { value = number; next = length bytes } in
-    let h = is_ok {P = λ n. n ≡ N} (number-read-test number (length bytes)) (same_number number (length bytes)) (number-from 0 bytes) t in h.1 ∙ ap Ok h.2
+    let h = is_ok {P = λ n. n ≡ N} (number_read_test number (length bytes)) (same_number number (length bytes)) (number_from 0 bytes) t in h.1 ∙ ap Ok h.2
 sound (opens file arms) t =
-    let h = is_ok {P = λ c. c ≡ contents arms []} (contents-test arms) (same-contents arms) (says file) t in h.1 ∙ ap Ok h.2
+    let h = is_ok {P = λ c. c ≡ contents arms []} (contents_test arms) (same_contents arms) (says file) t in h.1 ∙ ap Ok h.2
 sound (fails file number place order layer) t =
-    is_err (fault-test number place order (codes layer)) (same-fault number place order (codes layer)) (says file) t
-sound (tells file line) t = is_err (line-test (codes line)) (λ f. same_bytes (fault-text f) (codes line)) (says file) t
+    is_err (fault_test number place order (codes layer)) (same_fault number place order (codes layer)) (says file) t
+sound (tells file line) t = is_err (line_test (codes line)) (λ f. same_bytes (fault_text f) (codes line)) (says file) t
 sound (plays file text) t =
-    let both = and_parts (leb (length file) file-limit) (ok-test (report-test (codes text)) (says file)) t in
-    λ memory room. same-report file (codes text) memory (says file) both.1 (played file memory both.0 room)
-sound (gives room wanted arms) t = eqb-true (arms-for highest room wanted) arms t
-sound (accepts s call) t = is_none (refusal-of s call) t
-sound (refuses s call number) t = is_some (number-test number) (λ r. eqb-true (refusal-number r) number) (refusal-of s call) t
+    let both = and_parts (leb (length file) file_limit) (ok_test (report_test (codes text)) (says file)) t in
+    λ memory room. same_report file (codes text) memory (says file) both.1 (played file memory both.0 room)
+sound (gives room wanted arms) t = eqb-true (arms_for highest room wanted) arms t
+sound (accepts s call) t = is_none (refusal_of s call) t
+sound (refuses s call number) t = is_some (number_test number) (λ r. eqb-true (refusal_number r) number) (refusal_of s call) t
 sound (frees s i free) t =
-    let h = is_ok {P = λ b. b ≡ free} (same_bool free) (is-bool free) (way-answer s i) t in h.1 ∙ ap Ok h.2
-sound (counts s w b times) t = is_ok (count-test times) (λ c. eqb-true c.count times) (tally-answer s w b) t
+    let h = is_ok {P = λ b. b ≡ free} (same_bool free) (is_bool free) (way_answer s i) t in h.1 ∙ ap Ok h.2
+sound (counts s w b times) t = is_ok (count_test times) (λ c. eqb-true c.count times) (tally_answer s w b) t
 
 -- every case of a list passes, so each holds
 abbrev all_pass : List Case → Bool
@@ -183,8 +183,8 @@ each (c ∷ cs) t (suc k) other h = each cs (and_parts (test c) (all_pass cs) t)
 
 -- the table passes: computed
 passed : all_pass table ≡ true
-unfolding orders-from largest digits decimal
+unfolding orders_from largest digits decimal
 passed = refl
 
-pub every-case : Every-case
-every-case = each table passed
+pub every_case : EveryCase
+every_case = each table passed

@@ -1,7 +1,7 @@
 -- What the calls answer.
 use Rattle.std.specs.Prelude.{ℕ, zero, suc, ◌-◌, max, false, List, Some, None, Ok, Err, Option, Result, slice_index, slice_index_or}
-use Rattle.door.specs.Calls.{refusal-of, answered, arm-after}
-use Rattle.door.specs.Positions.{phase-of}
+use Rattle.door.specs.Calls.{refusal_of, answered, arm_after}
+use Rattle.door.specs.Positions.{phase_of}
 use Rattle.door.specs.States.{State, arm_at}
 use Rattle.door.specs.declared.arm.Arm.{Arm}
 use Rattle.door.specs.declared.call.Call.{Call}
@@ -17,23 +17,23 @@ use Rattle.gate.specs.declared.pass.HandedBack.{HandedBack}
 use Rattle.gate.specs.declared.pass.Pass.{Pass}
 
 -- the record of an arm, for a call that is accepted
-abbrev pub record-for : State → Call → ℕ → Result Arm Refusal
-record-for s c i = answered (refusal-of s c) (arm_at s i)
+abbrev pub record_for : State → Call → ℕ → Result Arm Refusal
+record_for s c i = answered (refusal_of s c) (arm_at s i)
 
 -- step answers the phase after it
-abbrev pub step-answer : State → ℕ → Result Phase Refusal
-step-answer s i = answered (refusal-of s (step i)) (phase-of (arm-after s i).position)
+abbrev pub step_answer : State → ℕ → Result Phase Refusal
+step_answer s i = answered (refusal_of s (step i)) (phase_of (arm_after s i).position)
 
-abbrev pub admit-answer : State → ℕ → Result Pass Refusal
-admit-answer s i = answered (refusal-of s (admit i)) (record { gate = s.number; arm = i; spent = false })
+abbrev pub admit_answer : State → ℕ → Result Pass Refusal
+admit_answer s i = answered (refusal_of s (admit i)) (record { gate = s.number; arm = i; spent = false })
 
 -- a pass that is refused is handed back
-abbrev pub handed-back : Pass → Option Refusal → Result Phase HandedBack
-handed-back p None = Ok P.X
-handed-back p (Some r) = Err (record { pass = p; refusal = r })
+abbrev pub handed_back : Pass → Option Refusal → Result Phase HandedBack
+handed_back p None = Ok P.X
+handed_back p (Some r) = Err (record { pass = p; refusal = r })
 
-abbrev pub leave-answer : State → Pass → Result Phase HandedBack
-leave-answer s p = handed-back p (refusal-of s (leave p.gate p.arm))
+abbrev pub leave_answer : State → Pass → Result Phase HandedBack
+leave_answer s p = handed_back p (refusal_of s (leave p.gate p.arm))
 
 -- the arm that a waiting arm looks at, else 0
 abbrev pub index_of : Position → ℕ
@@ -45,23 +45,23 @@ index_of (At.Leaving x) = 0
 
 -- what look tells of a record
 abbrev pub view_of : Arm → View
-view_of a = record { phase = phase-of a.position; side = a.side; index = index_of a.position; visits = a.visits; out = a.out }
+view_of a = record { phase = phase_of a.position; side = a.side; index = index_of a.position; visits = a.visits; out = a.out }
 
-abbrev pub look-answer : State → ℕ → Result View Refusal
-look-answer s i = answered (refusal-of s (look i)) (view_of (arm_at s i))
+abbrev pub look_answer : State → ℕ → Result View Refusal
+look_answer s i = answered (refusal_of s (look i)) (view_of (arm_at s i))
 
 -- what tally tells of a record and another arm
-abbrev pub tally-of : Arm → ℕ → Tally
-tally-of a b = record { count = slice_index a.row (b - 1); idle = slice_index_or a.notes (b - 1) false }
+abbrev pub tally_of : Arm → ℕ → Tally
+tally_of a b = record { count = slice_index a.row (b - 1); idle = slice_index_or a.notes (b - 1) false }
 
-abbrev pub tally-answer : State → ℕ → ℕ → Result Tally Refusal
-tally-answer s w b = answered (refusal-of s (tally w b)) (tally-of (arm_at s w) b)
+abbrev pub tally_answer : State → ℕ → ℕ → Result Tally Refusal
+tally_answer s w b = answered (refusal_of s (tally w b)) (tally_of (arm_at s w) b)
 
 -- the largest of the first n counts of a row
-abbrev pub largest-count : List ℕ → ℕ → ℕ
-largest-count row zero = 0
-largest-count row (suc b) = max (largest-count row b) (slice_index row b)
+abbrev pub largest_count : List ℕ → ℕ → ℕ
+largest_count row zero = 0
+largest_count row (suc b) = max (largest_count row b) (slice_index row b)
 
 -- the most that any arm went inside past arm w
-abbrev pub most-answer : State → ℕ → Result ℕ Refusal
-most-answer s w = answered (refusal-of s (look w)) (largest-count (arm_at s w).row s.n)
+abbrev pub most_answer : State → ℕ → Result ℕ Refusal
+most_answer s w = answered (refusal_of s (look w)) (largest_count (arm_at s w).row s.n)

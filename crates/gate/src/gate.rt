@@ -1,5 +1,5 @@
 ghost use Rattle.std.specs.Prelude.{◌≡◌, ◌≤◌, length};
-ghost use Rattle.door.specs.Limits.{arm-limit};
+ghost use Rattle.door.specs.Limits.{arm_limit};
 // Making a gate, and taking it apart.
 mod making;
 // Which calls are refused.
@@ -28,8 +28,8 @@ pub struct Gate<B: Bank> {
     number: u16,
     n: usize,
     arms: [Arm; ARM_LIMIT],
-    ghost few: { n ≤ arm-limit },
-    ghost full: { length arms ≡ arm-limit },
+    ghost few: { n ≤ arm_limit },
+    ghost full: { length arms ≡ arm_limit },
 }
 
 // What look tells of an arm.

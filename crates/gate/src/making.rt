@@ -1,13 +1,13 @@
 ghost use Rattle.std.specs.Prelude.{◌≡◌, ◌+◌, ◌*◌, ◌≤◌, length, nat_le};
-ghost use Rattle.door.specs.Limits.{arm-limit};
-ghost use Rattle.door.specs.Making.{arms-for, cleared, room};
+ghost use Rattle.door.specs.Limits.{arm_limit};
+ghost use Rattle.door.specs.Making.{arms_for, cleared, room};
 
 use bank::interface::Bank;
 use door::arm::ARM_LIMIT;
 
 // How many registers n arms take.
 pub(crate) fn registers(n: usize) -> usize
-    requires { n ≤ arm-limit }
+    requires { n ≤ arm_limit }
     ensures { result ≡ room n }
 {
     3 * n + 1
@@ -15,7 +15,7 @@ pub(crate) fn registers(n: usize) -> usize
 
 // Whether the bank has the registers of n arms.
 fn has_room<B: Bank>(bank: &B, n: usize) -> bool
-    requires { n ≤ arm-limit }
+    requires { n ≤ arm_limit }
     ensures { result ≡ nat_le (room n) (length (B.values bank.now)) }
 {
     match bank.read(registers(n) - 1) {
@@ -26,7 +26,7 @@ fn has_room<B: Bank>(bank: &B, n: usize) -> bool
 
 // How many arms a gate over this bank gets.
 pub(crate) fn arm_count<B: Bank>(bank: &B, wanted: usize) -> usize
-    ensures { result ≡ arms-for B.highest (length (B.values bank.now)) wanted }
+    ensures { result ≡ arms_for B.highest (length (B.values bank.now)) wanted }
 {
     if B::limit() == 0 {
         return 0;

@@ -1,14 +1,14 @@
 ghost use Rattle.std.specs.Prelude.{◌≡◌, ◌<◌, ◌≤◌, map, length};
-ghost use Rattle.door.specs.Limits.{arm-limit};
-ghost use Rattle.gate.specs.Answers.{largest-count};
-ghost use Rattle.door.specs.Tallies.{past-doorway, counted, each, is-idle, row-started, row-cleared, tallied};
+ghost use Rattle.door.specs.Limits.{arm_limit};
+ghost use Rattle.gate.specs.Answers.{largest_count};
+ghost use Rattle.door.specs.Tallies.{past_doorway, counted, each, is_idle, row_started, row_cleared, tallied};
 
 use door::arm::{ARM_LIMIT, Arm};
 use door::position::Phase;
 
 // Whether an arm in this phase counts the entries of others: in W, F or X.
 fn counts(phase: Phase) -> bool
-    ensures { result ≡ past-doorway phase }
+    ensures { result ≡ past_doorway phase }
 {
     match phase {
         Phase::W | Phase::F | Phase::X => true,
@@ -18,9 +18,9 @@ fn counts(phase: Phase) -> bool
 
 // The arm at b went inside: each other arm past its doorway adds 1 for it.
 fn count_entry(arms: &mut [Arm; ARM_LIMIT], b: usize)
-    requires { b < arm-limit }
+    requires { b < arm_limit }
     ensures after { arms.new ≡ each (counted b) 0 arms.old }
-    ensures full { length arms.new ≡ arm-limit }
+    ensures full { length arms.new ≡ arm_limit }
 {
     for k in 0..ARM_LIMIT {
         let arm = arms[k];
@@ -32,7 +32,7 @@ fn count_entry(arms: &mut [Arm; ARM_LIMIT], b: usize)
 
 // Which arms are idle.
 fn idle_arms(arms: &[Arm; ARM_LIMIT]) -> [bool; ARM_LIMIT]
-    ensures { result ≡ map is-idle arms.now }
+    ensures { result ≡ map is_idle arms.now }
 {
     let mut notes = [false; ARM_LIMIT];
     for k in 0..ARM_LIMIT {
@@ -47,8 +47,8 @@ fn idle_arms(arms: &[Arm; ARM_LIMIT]) -> [bool; ARM_LIMIT]
 
 // The arm at k ended its doorway: its row starts at 0, and the idle arms are noted.
 fn start_row(arms: &mut [Arm; ARM_LIMIT], k: usize)
-    requires { k < arm-limit }
-    ensures { arms.new ≡ row-started k arms.old }
+    requires { k < arm_limit }
+    ensures { arms.new ≡ row_started k arms.old }
 {
     let notes = idle_arms(arms);
     let arm = arms[k];
@@ -61,8 +61,8 @@ fn start_row(arms: &mut [Arm; ARM_LIMIT], k: usize)
 
 // The arm at k ended its visit: its row and notes are cleared.
 fn clear_row(arms: &mut [Arm; ARM_LIMIT], k: usize)
-    requires { k < arm-limit }
-    ensures { arms.new ≡ row-cleared k arms.old }
+    requires { k < arm_limit }
+    ensures { arms.new ≡ row_cleared k arms.old }
 {
     let arm = arms[k];
     arms[k] = Arm {
@@ -75,9 +75,9 @@ fn clear_row(arms: &mut [Arm; ARM_LIMIT], k: usize)
 // The arm at k went from one phase to another. A row starts at the end of the doorway and is cleared at the end of the visit;
 // an arm that goes inside is counted.
 pub(crate) fn follow(arms: &mut [Arm; ARM_LIMIT], k: usize, from: Phase, to: Phase)
-    requires { k < arm-limit }
+    requires { k < arm_limit }
     ensures rows { arms.new ≡ tallied k from to arms.old }
-    ensures full { length arms.new ≡ arm-limit }
+    ensures full { length arms.new ≡ arm_limit }
 {
     match (from, to) {
         (Phase::D, Phase::W) => start_row(arms, k),
@@ -89,8 +89,8 @@ pub(crate) fn follow(arms: &mut [Arm; ARM_LIMIT], k: usize, from: Phase, to: Pha
 
 // The largest of the first n counts of a row.
 pub(crate) fn largest(row: &[u8; ARM_LIMIT], n: usize) -> u8
-    requires { n ≤ arm-limit }
-    ensures { result ≡ largest-count row.now n }
+    requires { n ≤ arm_limit }
+    ensures { result ≡ largest_count row.now n }
 {
     let mut most: u8 = 0;
     for b in 0..n {

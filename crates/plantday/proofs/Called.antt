@@ -5,21 +5,21 @@ use Rattle.door.specs.Law.{Fair}
 use Rattle.door.specs.States.{State, made}
 use Rattle.door.specs.declared.call.Call.{Call}
 use Rattle.door.proofs.Fairness.{fair}
-use Rattle.plantday.specs.Day.{Called, Fair-day}
+use Rattle.plantday.specs.Day.{Called, FairDay}
 
-run-then : (s : State) (xs ys : List Call) → run s (xs ++ ys) ≡ run (run s xs) ys
-run-then s [] ys = refl
-run-then s (x ∷ xs) ys = run-then (after s x) xs ys
+run_then : (s : State) (xs ys : List Call) → run s (xs ++ ys) ≡ run (run s xs) ys
+run_then s [] ys = refl
+run_then s (x ∷ xs) ys = run_then (after s x) xs ys
 
 pub once : {s t : State} (c : Call) → t ≡ after s c → Called s t
 once c e = (c ∷ [], e)
 
 infixl 5 ◌then◌
 pub ◌then◌ : {s t u : State} → Called s t → Called t u → Called s u
-◌then◌ {s} {t} {u} a b = (a.0 ++ b.0, b.1 ∙ ap (λ x. run x b.0) a.1 ∙ sym (run-then s a.0 b.0))
+◌then◌ {s} {t} {u} a b = (a.0 ++ b.0, b.1 ∙ ap (λ x. run x b.0) a.1 ∙ sym (run_then s a.0 b.0))
 
 -- a gate on which only calls were made is fair
-pub fair-after : (high number wanted : ℕ) (regs : List ℕ) {t : State} → Called (made high number wanted regs) t → Fair-day (made high number wanted regs) t
-fair-after high number wanted regs {t} a =
+pub fair_after : (high number wanted : ℕ) (regs : List ℕ) {t : State} → Called (made high number wanted regs) t → FairDay (made high number wanted regs) t
+fair_after high number wanted regs {t} a =
     let start = made high number wanted regs in
     (a.0, a.1, subst (Fair start a.0) (sym a.1) (fair high number wanted regs a.0))

@@ -1,18 +1,18 @@
 -- What a day comes to for each arm, and how its rounds are counted.
 use Rattle.std.specs.Prelude.{ℕ, ◌+◌, ◌-◌, ◌^◌, min, max, Bool, false, cond, not, ◌||◌, List, map, set, replicate, Ok, Err, Result, nat_lt, slice_index, slice_index_or, slice_set}
 use Rattle.std.specs.List.{range_with_len}
-use Rattle.door.specs.History.{is-in}
-use Rattle.door.specs.States.{State, is-arm}
-use Rattle.door.specs.Tallies.{same-phase}
+use Rattle.door.specs.History.{is_in}
+use Rattle.door.specs.States.{State, is_arm}
+use Rattle.door.specs.Tallies.{same_phase}
 use Rattle.door.specs.declared.position.Phase.{Phase}
 use Rattle.door.specs.declared.position.Phase.TheVariants as P
 use Rattle.door.specs.declared.refusal.Refusal.{Refusal}
-use Rattle.gate.specs.Answers.{most-answer}
+use Rattle.gate.specs.Answers.{most_answer}
 use Rattle.plantday.specs.declared.record.Record.{Record}
 
 -- how many arms the plant has
-abbrev pub plant-arms : ℕ
-plant-arms = 6
+abbrev pub plant_arms : ℕ
+plant_arms = 6
 
 -- one more; a count of 32 bits stops at its highest
 abbrev pub more : ℕ → ℕ
@@ -22,17 +22,17 @@ more n = min (n + 1) (2 ^ 32 - 1)
 abbrev pub fresh : Record
 fresh =
     record {
-      delivered = replicate plant-arms 0;
-      passed = replicate plant-arms 0;
-      waited = replicate plant-arms 0;
-      since = replicate plant-arms 0;
-      due = replicate plant-arms false;
+      delivered = replicate plant_arms 0;
+      passed = replicate plant_arms 0;
+      waited = replicate plant_arms 0;
+      since = replicate plant_arms 0;
+      due = replicate plant_arms false;
       rounds = 0;
     }
 
 -- a reading of arm k + 1 is in the table
-abbrev pub with-delivery : ℕ → Record → Record
-with-delivery k r =
+abbrev pub with_delivery : ℕ → Record → Record
+with_delivery k r =
     record {
       delivered = slice_set r.delivered k (more (slice_index r.delivered k));
       passed = r.passed;
@@ -43,8 +43,8 @@ with-delivery k r =
     }
 
 -- arm k + 1 ended its doorway: its wait begins with the next round
-abbrev pub with-wait : ℕ → Record → Record
-with-wait k r =
+abbrev pub with_wait : ℕ → Record → Record
+with_wait k r =
     record {
       delivered = r.delivered;
       passed = r.passed;
@@ -55,8 +55,8 @@ with-wait k r =
     }
 
 -- arm k + 1 went inside, past which others went `most` times: the longest wait and the largest count are kept
-abbrev pub with-entry : ℕ → ℕ → Record → Record
-with-entry k most r =
+abbrev pub with_entry : ℕ → ℕ → Record → Record
+with_entry k most r =
     record {
       delivered = r.delivered;
       passed = slice_set r.passed k (max (slice_index r.passed k) most);
@@ -67,8 +67,8 @@ with-entry k most r =
     }
 
 -- other arms are due, and so many rounds are over
-abbrev pub with-round : List Bool → ℕ → Record → Record
-with-round due rounds r =
+abbrev pub with_round : List Bool → ℕ → Record → Record
+with_round due rounds r =
     record {
       delivered = r.delivered;
       passed = r.passed;
@@ -79,33 +79,33 @@ with-round due rounds r =
     }
 
 -- whether one of the six arms is due
-abbrev pub some-due : List Bool → Bool
-some-due due =
+abbrev pub some_due : List Bool → Bool
+some_due due =
     slice_index_or due 0 false || (slice_index_or due 1 false || (slice_index_or due 2 false || (slice_index_or due 3 false || (slice_index_or due 4 false || slice_index_or due 5 false))))
 
 -- an arm that the gate has and that is not idle
-abbrev pub is-busy : State → ℕ → Bool
-is-busy s k = cond (is-arm s (k + 1)) (not (is-in P.I s (k + 1))) false
+abbrev pub is_busy : State → ℕ → Bool
+is_busy s k = cond (is_arm s (k + 1)) (not (is_in P.I s (k + 1))) false
 
 -- arm k + 1 moved: a round is over once no arm is due, and then every arm that is not idle is
-abbrev pub with-move : State → ℕ → Record → Record
-with-move s k r =
+abbrev pub with_move : State → ℕ → Record → Record
+with_move s k r =
     let left = set r.due k false in
-    cond (some-due left) (with-round left r.rounds r) (with-round (map (is-busy s) (range_with_len 0 plant-arms)) (more r.rounds) r)
+    cond (some_due left) (with_round left r.rounds r) (with_round (map (is_busy s) (range_with_len 0 plant_arms)) (more r.rounds) r)
 
 -- what concerns an arm that the day does not have changes nothing
-abbrev pub of-arm : ℕ → Record → Record → Record
-of-arm k new old = cond (nat_lt k plant-arms) new old
+abbrev pub of_arm : ℕ → Record → Record → Record
+of_arm k new old = cond (nat_lt k plant_arms) new old
 
 -- arm k + 1 went inside, and what most_passed answered of it
-abbrev pub with-answer : ℕ → Result ℕ Refusal → Record → Record
-with-answer k (Ok most) r = of-arm k (with-entry k most r) r
-with-answer k (Err refusal) r = r
+abbrev pub with_answer : ℕ → Result ℕ Refusal → Record → Record
+with_answer k (Ok most) r = of_arm k (with_entry k most r) r
+with_answer k (Err refusal) r = r
 
 -- arm k + 1 stepped from one phase to another
 abbrev pub noted : State → ℕ → Phase → Phase → Record → Record
 noted s k P.I to r = r
-noted s k P.D to r = cond (same-phase to P.W) (of-arm k (with-wait k r) r) r
-noted s k P.W to r = cond (same-phase to P.F) (with-answer k (most-answer s (k + 1)) r) r
+noted s k P.D to r = cond (same_phase to P.W) (of_arm k (with_wait k r) r) r
+noted s k P.W to r = cond (same_phase to P.F) (with_answer k (most_answer s (k + 1)) r) r
 noted s k P.F to r = r
 noted s k P.X to r = r

@@ -5,8 +5,8 @@
 ghost use Rattle.std.specs.Prelude.{◌≡◌, ◌<◌};
 ghost use Rattle.door.specs.States.{made};
 ghost use Rattle.gate.specs.Whole.{whole};
-ghost use Rattle.plantday.specs.Day.{Called, Fair-day};
-ghost use Rattle.plantday.specs.Records.{plant-arms, noted};
+ghost use Rattle.plantday.specs.Day.{Called, FairDay};
+ghost use Rattle.plantday.specs.Records.{plant_arms, noted};
 
 mod dice;
 mod record;
@@ -33,7 +33,7 @@ const MOST_ROUNDS: usize = 50 * ARMS + 10;
 
 // Two arms get seven turns of ten, and the last one hardly any.
 fn pick(dice: &mut Dice) -> usize
-    ensures { result < plant-arms }
+    ensures { result < plant_arms }
 {
     if dice.roll(10) < 7 {
         dice.roll(2)
@@ -65,7 +65,7 @@ fn deliver<B: Bank>(gate: &mut Gate<B>, arm: usize, k: usize, record: &mut Recor
 
 // Notes that arm k + 1 stepped from one phase to another.
 fn note<B: Bank>(gate: &Gate<B>, k: usize, from: Phase, to: Phase, record: &mut Record)
-    requires { k < plant-arms }
+    requires { k < plant_arms }
     ensures { «record».new ≡ noted (whole gate.now) k from to «record».old }
 {
     match (from, to) {
@@ -81,7 +81,7 @@ fn note<B: Bank>(gate: &Gate<B>, k: usize, from: Phase, to: Phase, record: &mut 
 
 // One turn of arm k + 1, whatever its phase asks for.
 fn turn<B: Bank>(gate: &mut Gate<B>, k: usize, dice: &mut Dice, record: &mut Record)
-    requires { k < plant-arms }
+    requires { k < plant_arms }
     ensures { Called (whole gate.old) (whole gate.new) }
 {
     let arm = k + 1;
@@ -105,7 +105,7 @@ fn turn<B: Bank>(gate: &mut Gate<B>, k: usize, dice: &mut Dice, record: &mut Rec
 
 // A whole day on a new gate. Nothing but calls was made on it, so it is fair.
 fn whole_day<B: Bank>(bank: B, record: &mut Record) -> Gate<B>
-    ensures { Fair-day (made B.highest 7 plant-arms (B.values bank)) (whole result) }
+    ensures { FairDay (made B.highest 7 plant_arms (B.values bank)) (whole result) }
 {
     let mut gate = Gate::make(bank, NUMBER, ARMS);
     let mut dice = Dice::new(SEED);

@@ -1,7 +1,7 @@
 ghost use Rattle.std.specs.Prelude.{◌≡◌, ◌<◌, map};
 ghost use Rattle.std.specs.List.{range_with_len};
 ghost use Rattle.gate.specs.Whole.{whole};
-ghost use Rattle.plantday.specs.Records.{plant-arms, fresh, of-arm, with-delivery, with-wait, with-entry, with-move, some-due, is-busy};
+ghost use Rattle.plantday.specs.Records.{plant_arms, fresh, of_arm, with_delivery, with_wait, with_entry, with_move, some_due, is_busy};
 
 use bank::interface::Bank;
 use door::position::Phase;
@@ -42,7 +42,7 @@ impl Record {
 
     // A reading of arm k + 1 is in the table.
     pub fn deliver(&mut self, k: usize)
-        ensures { self.new ≡ of-arm k (with-delivery k self.old) self.old }
+        ensures { self.new ≡ of_arm k (with_delivery k self.old) self.old }
     {
         if k < ARMS {
             self.delivered[k] = self.delivered[k].saturating_add(1);
@@ -51,7 +51,7 @@ impl Record {
 
     // Arm k + 1 ended its doorway.
     pub fn waits(&mut self, k: usize)
-        ensures { self.new ≡ of-arm k (with-wait k self.old) self.old }
+        ensures { self.new ≡ of_arm k (with_wait k self.old) self.old }
     {
         if k < ARMS {
             self.since[k] = self.rounds.saturating_add(1);
@@ -60,7 +60,7 @@ impl Record {
 
     // Arm k + 1 went inside; while it waited, another went inside past it `most` times.
     pub fn goes_inside(&mut self, k: usize, most: u8)
-        ensures { self.new ≡ of-arm k (with-entry k most self.old) self.old }
+        ensures { self.new ≡ of_arm k (with_entry k most self.old) self.old }
     {
         if k < ARMS {
             let wait = self.rounds.saturating_sub(self.since[k]);
@@ -71,7 +71,7 @@ impl Record {
 
     // Arm k + 1 moved: a round is over once every arm that was not idle at its start has moved.
     pub fn moved<B: Bank>(&mut self, gate: &Gate<B>, k: usize)
-        ensures { self.new ≡ of-arm k (with-move (whole gate.now) k self.old) self.old }
+        ensures { self.new ≡ of_arm k (with_move (whole gate.now) k self.old) self.old }
     {
         if k >= ARMS {
             return;
@@ -86,15 +86,15 @@ impl Record {
 
 // Whether an arm is still due.
 fn is_due(due: &[bool; ARMS]) -> bool
-    ensures { result ≡ some-due due.now }
+    ensures { result ≡ some_due due.now }
 {
     due[0] || due[1] || due[2] || due[3] || due[4] || due[5]
 }
 
 // Whether the gate has arm k + 1 and it is not idle.
 fn is_busy<B: Bank>(gate: &Gate<B>, k: usize) -> bool
-    requires { k < plant-arms }
-    ensures { result ≡ is-busy (whole gate.now) k }
+    requires { k < plant_arms }
+    ensures { result ≡ is_busy (whole gate.now) k }
 {
     match gate.look(k + 1) {
         Ok(view) => match view.phase {
@@ -107,7 +107,7 @@ fn is_busy<B: Bank>(gate: &Gate<B>, k: usize) -> bool
 
 // The arms that are not idle.
 fn busy_arms<B: Bank>(gate: &Gate<B>) -> [bool; ARMS]
-    ensures { result ≡ map (is-busy (whole gate.now)) (range_with_len 0 plant-arms) }
+    ensures { result ≡ map (is_busy (whole gate.now)) (range_with_len 0 plant_arms) }
 {
     [
         is_busy(gate, 0),

@@ -2,9 +2,9 @@
 use Rattle.std.specs.Prelude.{ℕ}
 
 -- the least memory for a report or a fault line
-abbrev pub report-room : ℕ
-report-room = 1024
+abbrev pub report_room : ℕ
+report_room = 1024
 
 -- the most bytes that a page holds
-abbrev pub page-room : ℕ
-page-room = 2048
+abbrev pub page_room : ℕ
+page_room = 2048

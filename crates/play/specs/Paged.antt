@@ -1,6 +1,6 @@
 -- What a page of text holds, and what a write adds to it.
 use Rattle.std.specs.Prelude.{◌≡◌, ℕ, ◌+◌, ◌≤◌, List, ◌++◌, length, take}
-use Rattle.play.specs.Limits.{page-room}
+use Rattle.play.specs.Limits.{page_room}
 use Rattle.play.specs.declared.page.Page.{Page}
 
 -- the text so far
@@ -9,7 +9,7 @@ written page = take page.len page.bytes
 
 -- the page has room for n more bytes
 abbrev pub Room : Page → ℕ → Type 0
-Room page n = page.len + n ≤ page-room
+Room page n = page.len + n ≤ page_room
 
 -- these bytes are the text so far
 pub record Holds (page : Page) (bytes : List ℕ) : Type 0 where

@@ -1,28 +1,28 @@
 -- What playing a file comes to.
 use Rattle.std.specs.Prelude.{ℕ, ◌+◌, ◌≤◌, cond, List, [], ◌∷◌, length, Ok, Err, Option, Result, nat_le}
-use Rattle.door.specs.Calls.{refusal-of, after, unless}
+use Rattle.door.specs.Calls.{refusal_of, after, unless}
 use Rattle.door.specs.States.{State, made}
 use Rattle.door.specs.declared.call.Call.TheVariants.{Begin as begin, Step as step, Admit as admit, Leave as leave}
 use Rattle.door.specs.declared.refusal.Refusal.{Refusal}
-use Rattle.schedule.specs.Limits.{file-limit}
+use Rattle.schedule.specs.Limits.{file_limit}
 use Rattle.schedule.specs.Reading.{Contents, says}
 use Rattle.schedule.specs.declared.fault.PlayFault.{PlayFault}
 use Rattle.schedule.specs.declared.fault.PlayFault.TheVariants.{LongFile, ShortMemory}
 use Rattle.schedule.specs.declared.order.Order.{Order}
 use Rattle.schedule.specs.declared.order.Order.TheVariants.{Begin, Step, Leave}
-use Rattle.play.specs.Limits.{report-room}
-use Rattle.play.specs.Reports.{report-text}
+use Rattle.play.specs.Limits.{report_room}
+use Rattle.play.specs.Reports.{report_text}
 use Rattle.play.specs.Text.{overwritten}
 
 -- why the gate refuses an order; none where it obeys
-abbrev pub order-refusal : State → Order → Option Refusal
-order-refusal s (Begin i) = refusal-of s (begin i)
-order-refusal s (Step i) = refusal-of s (step i)
-order-refusal s (Leave i) = refusal-of s (admit i)
+abbrev pub order_refusal : State → Order → Option Refusal
+order_refusal s (Begin i) = refusal_of s (begin i)
+order_refusal s (Step i) = refusal_of s (step i)
+order_refusal s (Leave i) = refusal_of s (admit i)
 
 -- an arm that is admitted and leaves
 abbrev pub left_at_once : State → ℕ → State
-left_at_once s i = unless (refusal-of s (admit i)) (after (after s (admit i)) (leave s.number i)) s
+left_at_once s i = unless (refusal_of s (admit i)) (after (after s (admit i)) (leave s.number i)) s
 
 -- the gate after an order; a leave order admits and leaves
 abbrev pub obeyed : State → Order → State
@@ -31,52 +31,52 @@ obeyed s (Step i) = after s (step i)
 obeyed s (Leave i) = left_at_once s i
 
 -- the gate after all orders, and how many it refused
-abbrev pub obeyed-all : State → List Order → State
-obeyed-all s [] = s
-obeyed-all s (o ∷ os) = obeyed-all (obeyed s o) os
+abbrev pub obeyed_all : State → List Order → State
+obeyed_all s [] = s
+obeyed_all s (o ∷ os) = obeyed_all (obeyed s o) os
 
 abbrev pub refusals : State → List Order → ℕ
 refusals s [] = 0
-refusals s (o ∷ os) = unless (order-refusal s o) 0 1 + refusals (obeyed s o) os
+refusals s (o ∷ os) = unless (order_refusal s o) 0 1 + refusals (obeyed s o) os
 
 -- what a file says, to a play with so much report memory: too long, then too little memory, then its first fault
 abbrev pub playable : List ℕ → ℕ → Result Contents PlayFault
 playable file room =
-    cond (nat_le (length file) file-limit) (cond (nat_le report-room room) (says file) (Err ShortMemory)) (Err LongFile)
+    cond (nat_le (length file) file_limit) (cond (nat_le report_room room) (says file) (Err ShortMemory)) (Err LongFile)
 
 -- gate 0 over a bank, made for a file and after its orders
 abbrev pub start : ℕ → List ℕ → Contents → State
 start high regs c = made high 0 c.arms regs
 
 abbrev pub end : ℕ → List ℕ → Contents → State
-end high regs c = obeyed-all (start high regs c) c.orders
+end high regs c = obeyed_all (start high regs c) c.orders
 
-abbrev pub play-text : ℕ → List ℕ → Contents → List ℕ
-play-text high regs c = report-text (end high regs c) (length c.orders) (refusals (start high regs c) c.orders)
+abbrev pub play_text : ℕ → List ℕ → Contents → List ℕ
+play_text high regs c = report_text (end high regs c) (length c.orders) (refusals (start high regs c) c.orders)
 
 -- what play answers, and what the bank and the report memory then hold
-abbrev pub play-answer : ℕ → List ℕ → Result Contents PlayFault → Result ℕ PlayFault
-play-answer high regs (Ok c) = Ok (length (play-text high regs c))
-play-answer high regs (Err fault) = Err fault
+abbrev pub play_answer : ℕ → List ℕ → Result Contents PlayFault → Result ℕ PlayFault
+play_answer high regs (Ok c) = Ok (length (play_text high regs c))
+play_answer high regs (Err fault) = Err fault
 
-abbrev pub play-regs : ℕ → List ℕ → Result Contents PlayFault → List ℕ
-play-regs high regs (Ok c) = (end high regs c).regs
-play-regs high regs (Err fault) = regs
+abbrev pub play_regs : ℕ → List ℕ → Result Contents PlayFault → List ℕ
+play_regs high regs (Ok c) = (end high regs c).regs
+play_regs high regs (Err fault) = regs
 
-abbrev pub play-memory : ℕ → List ℕ → List ℕ → Result Contents PlayFault → List ℕ
-play-memory high regs memory (Ok c) = overwritten memory (play-text high regs c)
-play-memory high regs memory (Err fault) = memory
+abbrev pub play_memory : ℕ → List ℕ → List ℕ → Result Contents PlayFault → List ℕ
+play_memory high regs memory (Ok c) = overwritten memory (play_text high regs c)
+play_memory high regs memory (Err fault) = memory
 
 -- no report is longer than the least memory
 abbrev pub Fits : Result ℕ PlayFault → Type 0
-Fits (Ok n) = n ≤ report-room
+Fits (Ok n) = n ≤ report_room
 Fits (Err fault) = Unit {0}
 
 -- the same from a gate in hand, for the orders of a file
-abbrev pub obeyed-by : Result Contents PlayFault → State → State
-obeyed-by (Ok c) s = obeyed-all s c.orders
-obeyed-by (Err fault) s = s
+abbrev pub obeyed_by : Result Contents PlayFault → State → State
+obeyed_by (Ok c) s = obeyed_all s c.orders
+obeyed_by (Err fault) s = s
 
-abbrev pub refused-by : Result Contents PlayFault → State → ℕ
-refused-by (Ok c) s = refusals s c.orders
-refused-by (Err fault) s = 0
+abbrev pub refused_by : Result Contents PlayFault → State → ℕ
+refused_by (Ok c) s = refusals s c.orders
+refused_by (Err fault) s = 0

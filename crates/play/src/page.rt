@@ -1,5 +1,5 @@
 ghost use Rattle.std.specs.Prelude.{◌≡◌, ◌≤◌, length};
-ghost use Rattle.play.specs.Limits.{page-room};
+ghost use Rattle.play.specs.Limits.{page_room};
 
 mod writing;
 
@@ -11,6 +11,6 @@ const ROOM: usize = 2048;
 pub(crate) struct Page {
     bytes: [u8; ROOM],
     len: usize,
-    ghost whole: { length bytes ≡ page-room },
-    ghost within: { len ≤ page-room },
+    ghost whole: { length bytes ≡ page_room },
+    ghost within: { len ≤ page_room },
 }

@@ -1,10 +1,10 @@
 ghost use Rattle.std.specs.Prelude.{◌≡◌, ◌≤◌, length, Ok};
 ghost use Rattle.std.specs.Result.{result_err};
-ghost use Rattle.door.specs.Calls.{refusal-of, unless};
+ghost use Rattle.door.specs.Calls.{refusal_of, unless};
 ghost use Rattle.door.specs.declared.call.Call.TheVariants.{Admit};
 ghost use Rattle.gate.specs.Whole.{whole};
-ghost use Rattle.schedule.specs.Reading.{says, heading-of};
-ghost use Rattle.play.specs.Playing.{order-refusal, obeyed, left_at_once, playable, obeyed-by, refused-by, play-answer, play-regs, play-memory, Fits};
+ghost use Rattle.schedule.specs.Reading.{says, heading_of};
+ghost use Rattle.play.specs.Playing.{order_refusal, obeyed, left_at_once, playable, obeyed_by, refused_by, play_answer, play_regs, play_memory, Fits};
 
 use crate::report::{REPORT_ROOM, report};
 use crate::service::Service;
@@ -26,7 +26,7 @@ pub struct Played<B> {
 
 // Admits an arm and lets it leave at once; the refusal, if any.
 fn leave_at_once<B: Bank>(gate: &mut Gate<B>, arm: usize) -> Option<Refusal>
-    ensures answer { result ≡ refusal-of (whole gate.old) (Admit arm) }
+    ensures answer { result ≡ refusal_of (whole gate.old) (Admit arm) }
     ensures after { whole gate.new ≡ left_at_once (whole gate.old) arm }
 {
     match gate.admit(arm) {
@@ -50,7 +50,7 @@ fn refusal(answer: Result<Phase, Refusal>) -> Option<Refusal>
 
 // Obeys one order, unless the gate refuses it.
 fn obey<B: Bank>(gate: &mut Gate<B>, order: Order) -> Option<Refusal>
-    ensures answer { result ≡ order-refusal (whole gate.old) order }
+    ensures answer { result ≡ order_refusal (whole gate.old) order }
     ensures after { whole gate.new ≡ obeyed (whole gate.old) order }
 {
     match order {
@@ -73,9 +73,9 @@ fn count(refusal: Option<Refusal>) -> usize
 
 // Obeys the orders of a file that was checked, and answers how many the gate refused.
 fn obey_all<B: Bank>(gate: &mut Gate<B>, file: &[u8], heading: Heading) -> usize
-    requires { Ok heading ≡ heading-of (says file.now) }
-    ensures refused { result ≡ refused-by (says file.now) (whole gate.old) }
-    ensures after { whole gate.new ≡ obeyed-by (says file.now) (whole gate.old) }
+    requires { Ok heading ≡ heading_of (says file.now) }
+    ensures refused { result ≡ refused_by (says file.now) (whole gate.old) }
+    ensures after { whole gate.new ≡ obeyed_by (says file.now) (whole gate.old) }
 {
     let mut at = match arms_of(file) {
         Ok(first) => first.next,
@@ -95,7 +95,7 @@ fn obey_all<B: Bank>(gate: &mut Gate<B>, file: &[u8], heading: Heading) -> usize
 
 // The heading of a file that can be played with so much report memory.
 fn ready(file: &[u8], room: usize) -> Result<Heading, PlayFault>
-    ensures { result ≡ heading-of (playable file.now room) }
+    ensures { result ≡ heading_of (playable file.now room) }
 {
     if file.len() > FILE_LIMIT {
         return Err(PlayFault::LongFile);
@@ -110,9 +110,9 @@ fn ready(file: &[u8], room: usize) -> Result<Heading, PlayFault>
 // The guard shows that the service byte reads 1 while this works.
 fn perform<B: Bank>(file: &[u8], bank: B, memory: &mut [u8], guard: &Service) -> Played<B>
     requires { guard.now.byte.now ≡ 1 }
-    ensures answer { result.answer ≡ play-answer B.highest (B.values bank) (playable file.now (length memory.old)) }
-    ensures registers { B.values result.bank ≡ play-regs B.highest (B.values bank) (playable file.now (length memory.old)) }
-    ensures report { memory.new ≡ play-memory B.highest (B.values bank) memory.old (playable file.now (length memory.old)) }
+    ensures answer { result.answer ≡ play_answer B.highest (B.values bank) (playable file.now (length memory.old)) }
+    ensures registers { B.values result.bank ≡ play_regs B.highest (B.values bank) (playable file.now (length memory.old)) }
+    ensures report { memory.new ≡ play_memory B.highest (B.values bank) memory.old (playable file.now (length memory.old)) }
     ensures fits { Fits result.answer }
 {
     let heading = match ready(file, memory.len()) {
@@ -134,9 +134,9 @@ fn perform<B: Bank>(file: &[u8], bank: B, memory: &mut [u8], guard: &Service) ->
 // Plays a file on gate 0 over a bank, puts the report at the start of the memory, and hands the bank back.
 // The file is checked whole first: a fault leaves bank and memory as they were. The service byte reads 1 meanwhile.
 pub fn play<B: Bank>(file: &[u8], bank: B, memory: &mut [u8], service: &mut u8) -> Played<B>
-    ensures answer { result.answer ≡ play-answer B.highest (B.values bank) (playable file.now (length memory.old)) }
-    ensures registers { B.values result.bank ≡ play-regs B.highest (B.values bank) (playable file.now (length memory.old)) }
-    ensures report { memory.new ≡ play-memory B.highest (B.values bank) memory.old (playable file.now (length memory.old)) }
+    ensures answer { result.answer ≡ play_answer B.highest (B.values bank) (playable file.now (length memory.old)) }
+    ensures registers { B.values result.bank ≡ play_regs B.highest (B.values bank) (playable file.now (length memory.old)) }
+    ensures report { memory.new ≡ play_memory B.highest (B.values bank) memory.old (playable file.now (length memory.old)) }
     ensures fits { Fits result.answer }
     ensures restored { service.new ≡ service.old }
 {

@@ -1,9 +1,9 @@
 ghost use Rattle.std.specs.Prelude.{◌≡◌, ◌+◌, ◌<◌, ◌≤◌, length};
-ghost use Rattle.gate.specs.Answers.{view_of, largest-count};
+ghost use Rattle.gate.specs.Answers.{view_of, largest_count};
 ghost use Rattle.door.specs.States.{arm_at};
 ghost use Rattle.gate.specs.Whole.{whole};
 ghost use Rattle.play.specs.Paged.{Room, Added, written};
-ghost use Rattle.play.specs.Reports.{side-text, arm-line, first-line, report-text, layer-word, fault-text, text-answer, text-memory};
+ghost use Rattle.play.specs.Reports.{side_text, arm_line, first_line, report_text, layer_word, fault_text, text_answer, text_memory};
 
 use crate::page::Page;
 use bank::interface::Bank;
@@ -16,8 +16,8 @@ pub const REPORT_ROOM: usize = 1024;
 // Copies a text to the start of memory that has room for any report; else the memory stays as it was.
 fn deliver(page: &Page, memory: &mut [u8]) -> Result<usize, PlayFault>
     requires { page.now.len ≡ length (written page.now) }
-    ensures answer { result ≡ text-answer memory.old (written page.now) }
-    ensures after { memory.new ≡ text-memory memory.old (written page.now) }
+    ensures answer { result ≡ text_answer memory.old (written page.now) }
+    ensures after { memory.new ≡ text_memory memory.old (written page.now) }
 {
     if memory.len() < REPORT_ROOM || memory.len() < page.size() {
         return Err(PlayFault::ShortMemory);
@@ -29,7 +29,7 @@ fn deliver(page: &Page, memory: &mut [u8]) -> Result<usize, PlayFault>
 // Writes a side, or a dash where it is missing.
 fn write_side(page: &mut Page, side: Option<u64>)
     requires { Room page.old 20 }
-    ensures added { Added page.old (side-text side) page.new }
+    ensures added { Added page.old (side_text side) page.new }
     ensures short { page.new.len ≤ page.old.len + 20 }
 {
     match side {
@@ -41,7 +41,7 @@ fn write_side(page: &mut Page, side: Option<u64>)
 // Writes the name of a layer.
 fn write_layer(page: &mut Page, layer: Layer)
     requires { Room page.old 8 }
-    ensures { Added page.old (layer-word layer) page.new }
+    ensures { Added page.old (layer_word layer) page.new }
 {
     match layer {
         Layer::Number => page.text(b"number"),
@@ -52,8 +52,8 @@ fn write_layer(page: &mut Page, layer: Layer)
 
 // Puts the line of a fault at the start of the memory, and answers its length.
 pub fn fault_line(fault: PlayFault, memory: &mut [u8]) -> Result<usize, PlayFault>
-    ensures answer { result ≡ text-answer memory.old (fault-text fault) }
-    ensures after { memory.new ≡ text-memory memory.old (fault-text fault) }
+    ensures answer { result ≡ text_answer memory.old (fault_text fault) }
+    ensures after { memory.new ≡ text_memory memory.old (fault_text fault) }
 {
     let mut page = Page::new();
     page.text(b"fault ");
@@ -82,7 +82,7 @@ fn seen<B: Bank>(gate: &Gate<B>, arm: usize) -> View
 // The largest count of the row of an arm that the gate has.
 fn largest<B: Bank>(gate: &Gate<B>, arm: usize) -> u8
     requires { (1 ≤ arm) × (arm ≤ gate.now.n) }
-    ensures { result ≡ largest-count (arm_at (whole gate.now) arm).row gate.now.n }
+    ensures { result ≡ largest_count (arm_at (whole gate.now) arm).row gate.now.n }
 {
     match gate.most_passed(arm) {
         Ok(most) => most,
@@ -93,7 +93,7 @@ fn largest<B: Bank>(gate: &Gate<B>, arm: usize) -> u8
 // Writes the line of arm k + 1: arm, phase, side, visits and the largest count of its row.
 fn write_arm<B: Bank>(page: &mut Page, gate: &Gate<B>, k: usize)
     requires { (Room page.old 80) × (k < gate.now.n) }
-    ensures added { Added page.old (arm-line (whole gate.now) k) page.new }
+    ensures added { Added page.old (arm_line (whole gate.now) k) page.new }
     ensures short { page.new.len ≤ page.old.len + 41 }
 {
     let arm = k + 1;
@@ -113,7 +113,7 @@ fn write_arm<B: Bank>(page: &mut Page, gate: &Gate<B>, k: usize)
 // Writes the line on the whole play.
 fn write_first<B: Bank>(page: &mut Page, gate: &Gate<B>, orders: usize, refused: usize)
     requires { Room page.old 200 }
-    ensures added { Added page.old (first-line (whole gate.now) orders refused) page.new }
+    ensures added { Added page.old (first_line (whole gate.now) orders refused) page.new }
     ensures short { page.new.len ≤ page.old.len + 120 }
 {
     page.text(b"arms ");
@@ -134,8 +134,8 @@ pub fn report<B: Bank>(
     refused: usize,
     memory: &mut [u8],
 ) -> Result<usize, PlayFault>
-    ensures answer { result ≡ text-answer memory.old (report-text (whole gate.now) orders refused) }
-    ensures after { memory.new ≡ text-memory memory.old (report-text (whole gate.now) orders refused) }
+    ensures answer { result ≡ text_answer memory.old (report_text (whole gate.now) orders refused) }
+    ensures after { memory.new ≡ text_memory memory.old (report_text (whole gate.now) orders refused) }
 {
     let mut page = Page::new();
     write_first(&mut page, gate, orders, refused);

@@ -8,17 +8,17 @@ use Rattle.schedule.specs.declared.fault.PlayFault.{PlayFault}
 use Rattle.schedule.specs.declared.fault.PlayFault.TheVariants.{Schedule, Full}
 use Rattle.schedule.specs.declared.writer.WriteRefusal.TheVariants as W
 use Rattle.schedule.specs.declared.fault.Layer.TheVariants as L
-use Rattle.schedule.specs.Faults.{fault-number, fault-place, fault-order, fault-layer}
+use Rattle.schedule.specs.Faults.{fault_number, fault_place, fault_order, fault_layer}
 use Rattle.schedule.specs.Numbers.{groups}
-use Rattle.schedule.specs.Reading.{Contents, says, orders-from, read_answer, read-memory}
-use Rattle.schedule.specs.Writing.{file-bytes, order-bytes, write-answer, write-memory}
+use Rattle.schedule.specs.Reading.{Contents, says, orders_from, read_answer, read_memory}
+use Rattle.schedule.specs.Writing.{file_bytes, order_bytes, write_answer, write_memory}
 
 -- 7F, 80 01 and FF 7F
-one-group : groups 127 ≡ 127 ∷ []
-one-group = refl
+one_group : groups 127 ≡ 127 ∷ []
+one_group = refl
 
-two-groups : groups 128 ≡ 128 ∷ 1 ∷ []
-two-groups = refl
+two_groups : groups 128 ≡ 128 ∷ 1 ∷ []
+two_groups = refl
 
 largest : groups 16383 ≡ 255 ∷ 127 ∷ []
 largest = refl
@@ -29,104 +29,104 @@ fault f = Err f
 
 -- 80 00, 80, FF FF and the empty file as first number
 padded : says (128 ∷ 0 ∷ []) ≡ fault (Schedule (Number (Padded 0) 0))
-unfolding orders-from
+unfolding orders_from
 padded = refl
 
 cut : says (128 ∷ []) ≡ fault (Schedule (Number (Cut 0) 0))
-unfolding orders-from
+unfolding orders_from
 cut = refl
 
 large : says (255 ∷ 255 ∷ []) ≡ fault (Schedule (Number (Large 0) 0))
-unfolding orders-from
+unfolding orders_from
 large = refl
 
 empty : says [] ≡ fault (Schedule (Number (Cut 0) 0))
-unfolding orders-from
+unfolding orders_from
 empty = refl
 
 -- 20 has 32 arms and no orders; 21 and 00 have too many and none
-no-orders : says (32 ∷ []) ≡ Ok (record { arms = 32; orders = [] })
-unfolding orders-from
-no-orders = refl
+no_orders : says (32 ∷ []) ≡ Ok (record { arms = 32; orders = [] })
+unfolding orders_from
+no_orders = refl
 
-many-arms : says (33 ∷ []) ≡ fault (Schedule ArmCount)
-unfolding orders-from
-many-arms = refl
+many_arms : says (33 ∷ []) ≡ fault (Schedule ArmCount)
+unfolding orders_from
+many_arms = refl
 
-no-arms : says (0 ∷ []) ≡ fault (Schedule ArmCount)
-unfolding orders-from
-no-arms = refl
+no_arms : says (0 ∷ []) ≡ fault (Schedule ArmCount)
+unfolding orders_from
+no_arms = refl
 
 -- 02 07 has an order of kind 3
 unknown : says (2 ∷ 7 ∷ []) ≡ fault (Schedule (UnknownOrder 1 1))
-unfolding orders-from
+unfolding orders_from
 unknown = refl
 
 -- 02 04 80 00 has a padded number after an order
 abbrev later : PlayFault
 later = Schedule (Number (Padded 2) 2)
 
-padded-later : says (2 ∷ 4 ∷ 128 ∷ 0 ∷ []) ≡ fault later
-unfolding orders-from
-padded-later = refl
+padded_later : says (2 ∷ 4 ∷ 128 ∷ 0 ∷ []) ≡ fault later
+unfolding orders_from
+padded_later = refl
 
-later-number : fault-number later ≡ 12
-later-number = refl
+later_number : fault_number later ≡ 12
+later_number = refl
 
-later-place : fault-place later ≡ 2
-later-place = refl
+later_place : fault_place later ≡ 2
+later_place = refl
 
-later-order : fault-order later ≡ 2
-later-order = refl
+later_order : fault_order later ≡ 2
+later_order = refl
 
-later-layer : fault-layer later ≡ L.Number
-later-layer = refl
+later_layer : fault_layer later ≡ L.Number
+later_layer = refl
 
 -- 02 04 85 01 06: two arms; arm 1 begins, arm 33 steps, arm 1 leaves
 abbrev three : List Order
 three = Begin 1 ∷ Step 33 ∷ Leave 1 ∷ []
 
-three-read : says (2 ∷ 4 ∷ 133 ∷ 1 ∷ 6 ∷ []) ≡ Ok (record { arms = 2; orders = three })
-unfolding orders-from
-three-read = refl
+three_read : says (2 ∷ 4 ∷ 133 ∷ 1 ∷ 6 ∷ []) ≡ Ok (record { arms = 2; orders = three })
+unfolding orders_from
+three_read = refl
 
-three-written : file-bytes 2 three ≡ 2 ∷ 4 ∷ 133 ∷ 1 ∷ 6 ∷ []
-unfolding order-bytes
-three-written = refl
+three_written : file_bytes 2 three ≡ 2 ∷ 4 ∷ 133 ∷ 1 ∷ 6 ∷ []
+unfolding order_bytes
+three_written = refl
 
 -- memory for fewer orders than the file has is full, and stays as it was
 abbrev mine : List Order
 mine = Leave 7 ∷ []
 
-full-answer : read_answer (says (2 ∷ 4 ∷ 5 ∷ [])) 1 ≡ Err Full
-unfolding orders-from
-full-answer = refl
+full_answer : read_answer (says (2 ∷ 4 ∷ 5 ∷ [])) 1 ≡ Err Full
+unfolding orders_from
+full_answer = refl
 
-full-memory : read-memory (says (2 ∷ 4 ∷ 5 ∷ [])) mine ≡ mine
-unfolding orders-from
-full-memory = refl
+full_memory : read_memory (says (2 ∷ 4 ∷ 5 ∷ [])) mine ≡ mine
+unfolding orders_from
+full_memory = refl
 
-part-memory : read-memory (says (2 ∷ 4 ∷ [])) (Leave 7 ∷ Leave 8 ∷ []) ≡ Begin 1 ∷ Leave 8 ∷ []
-unfolding orders-from
-part-memory = refl
+part_memory : read_memory (says (2 ∷ 4 ∷ [])) (Leave 7 ∷ Leave 8 ∷ []) ≡ Begin 1 ∷ Leave 8 ∷ []
+unfolding orders_from
+part_memory = refl
 
 -- the writer refuses an arm count first, then a large number, then for want of memory
-far-first : write-answer 0 (Begin 4096 ∷ []) 0 ≡ Err W.ArmCount
-unfolding order-bytes
-far-first = refl
+far_first : write_answer 0 (Begin 4096 ∷ []) 0 ≡ Err W.ArmCount
+unfolding order_bytes
+far_first = refl
 
-far : write-answer 32 (Begin 4096 ∷ []) 0 ≡ Err W.Large
-unfolding order-bytes
+far : write_answer 32 (Begin 4096 ∷ []) 0 ≡ Err W.Large
+unfolding order_bytes
 far = refl
 
-near : write-answer 32 (Leave 4095 ∷ []) 3 ≡ Ok 3
-unfolding order-bytes
+near : write_answer 32 (Leave 4095 ∷ []) 3 ≡ Ok 3
+unfolding order_bytes
 near = refl
 
-no_room : write-answer 32 (Leave 4095 ∷ []) 2 ≡ Err W.Full
-unfolding order-bytes
+no_room : write_answer 32 (Leave 4095 ∷ []) 2 ≡ Err W.Full
+unfolding order_bytes
 no_room = refl
 
-written : write-memory 32 (Step 1 ∷ []) (9 ∷ 9 ∷ 9 ∷ []) ≡ 32 ∷ 5 ∷ 9 ∷ []
-unfolding order-bytes
+written : write_memory 32 (Step 1 ∷ []) (9 ∷ 9 ∷ 9 ∷ []) ≡ 32 ∷ 5 ∷ 9 ∷ []
+unfolding order_bytes
 written = refl

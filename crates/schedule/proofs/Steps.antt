@@ -7,9 +7,9 @@ use Rattle.schedule.specs.declared.number.Number.{Number}
 use Rattle.schedule.specs.declared.reader.Placed.{Placed}
 use Rattle.schedule.specs.declared.fault.NumberFault.{NumberFault}
 use Rattle.schedule.specs.declared.fault.ScheduleFault.{ScheduleFault}
-use Rattle.schedule.specs.Numbers.{number-from}
-use Rattle.schedule.specs.Orders.{order-of}
-use Rattle.schedule.specs.Reading.{and_then, with-count, in-schedule, known, order_from, orders-from, preceded}
+use Rattle.schedule.specs.Numbers.{number_from}
+use Rattle.schedule.specs.Orders.{order_of}
+use Rattle.schedule.specs.Reading.{and_then, with_count, in_schedule, known, order_from, orders_from, preceded}
 
 -- how many bytes a number has
 abbrev pub span : List ℕ → ℕ
@@ -17,90 +17,90 @@ span [] = 0
 span (low ∷ rest) = cond (ltb low 128) 1 2
 
 pub record Ends (place : ℕ) (bytes : List ℕ) (n : Number) : Type 0 where
-  pub next-is : n.next ≡ place + span bytes
+  pub next_is : n.next ≡ place + span bytes
   pub within : span bytes ≤ length bytes
   pub some : 0 < span bytes
 
-pub number-ends : (place : ℕ) (bytes : List ℕ) (n : Number) → number-from place bytes ≡ Ok n → Ends place bytes n
-number-ends place [] n e = absurd (grind arith)
-number-ends place (low ∷ []) n e = record { next-is = grind (arith, nat_tests); within = grind (arith, nat_tests); some = grind (arith, nat_tests) }
-number-ends place (low ∷ high ∷ rest) n e = record { next-is = grind (arith, nat_tests); within = grind (arith, nat_tests); some = grind (arith, nat_tests) }
+pub number_ends : (place : ℕ) (bytes : List ℕ) (n : Number) → number_from place bytes ≡ Ok n → Ends place bytes n
+number_ends place [] n e = absurd (grind arith)
+number_ends place (low ∷ []) n e = record { next_is = grind (arith, nat_tests); within = grind (arith, nat_tests); some = grind (arith, nat_tests) }
+number_ends place (low ∷ high ∷ rest) n e = record { next_is = grind (arith, nat_tests); within = grind (arith, nat_tests); some = grind (arith, nat_tests) }
 
 -- an order is a number with a known kind
 pub record Parts (place count : ℕ) (bytes : List ℕ) (p : Placed) : Type 0 where
   pub n : Number
-  pub read : number-from place bytes ≡ Ok n
-  pub kind : order-of n.value ≡ Some p.order
+  pub read : number_from place bytes ≡ Ok n
+  pub kind : order_of n.value ≡ Some p.order
   pub after : p.next ≡ n.next
 
-pub order-parts : (place count : ℕ) (bytes : List ℕ) (p : Placed) → order_from place count bytes ≡ Ok p → Parts place count bytes p
-order-parts place count bytes p e = go (number-from place bytes) refl e
+pub order_parts : (place count : ℕ) (bytes : List ℕ) (p : Placed) → order_from place count bytes ≡ Ok p → Parts place count bytes p
+order_parts place count bytes p e = go (number_from place bytes) refl e
   where
-    kinds : (n : Number) → number-from place bytes ≡ Ok n → (o : Option Order) → order-of n.value ≡ o → known place count n.next o ≡ Ok p → Parts place count bytes p
+    kinds : (n : Number) → number_from place bytes ≡ Ok n → (o : Option Order) → order_of n.value ≡ o → known place count n.next o ≡ Ok p → Parts place count bytes p
     kinds n r (Some o) k h =
         let q : Placed = record { order = o; next = n.next } in
         let i : q ≡ p = cc in
         record { n = n; read = r; kind = k ∙ ap (λ x. Some x.order) i; after = sym (ap (λ x. x.next) i) }
     kinds n r None k h = absurd (grind arith)
 
-    go : (r : Result Number NumberFault) → number-from place bytes ≡ r
-        → and_then (in-schedule (with-count count r)) (λ n. known place count n.next (order-of n.value)) ≡ Ok p → Parts place count bytes p
-    go (Ok n) r h = kinds n r (order-of n.value) refl h
+    go : (r : Result Number NumberFault) → number_from place bytes ≡ r
+        → and_then (in_schedule (with_count count r)) (λ n. known place count n.next (order_of n.value)) ≡ Ok p → Parts place count bytes p
+    go (Ok n) r h = kinds n r (order_of n.value) refl h
     go (Err f) r h = absurd (grind arith)
 
 module _ (place count : ℕ) (bytes : List ℕ) (p : Placed) (e : order_from place count bytes ≡ Ok p) where
   the_parts : Parts place count bytes p
-  the_parts = order-parts place count bytes p e
+  the_parts = order_parts place count bytes p e
 
-  pub order-ends : (p.next ≡ place + span bytes) × (span bytes ≤ length bytes) × (0 < span bytes)
-  order-ends =
-      let h = number-ends place bytes the_parts.n the_parts.read in
-      (the_parts.after ∙ h.next-is, h.within, h.some)
+  pub order_ends : (p.next ≡ place + span bytes) × (span bytes ≤ length bytes) × (0 < span bytes)
+  order_ends =
+      let h = number_ends place bytes the_parts.n the_parts.read in
+      (the_parts.after ∙ h.next_is, h.within, h.some)
 
 -- the orders from a place on are the one there and those after it
-pub orders-step : (place count : ℕ) (bytes : List ℕ) (p : Placed) → order_from place count bytes ≡ Ok p
-    → orders-from place count bytes ≡ preceded p.order (orders-from p.next (count + 1) (drop (span bytes) bytes))
-unfolding orders-from
-orders-step place count [] p e = absurd (grind arith)
-orders-step place count (low ∷ []) p e =
-    let h = order-ends place count (low ∷ []) p e in
+pub orders_step : (place count : ℕ) (bytes : List ℕ) (p : Placed) → order_from place count bytes ≡ Ok p
+    → orders_from place count bytes ≡ preceded p.order (orders_from p.next (count + 1) (drop (span bytes) bytes))
+unfolding orders_from
+orders_step place count [] p e = absurd (grind arith)
+orders_step place count (low ∷ []) p e =
+    let h = order_ends place count (low ∷ []) p e in
     let one : span (low ∷ []) ≡ 1 = grind (arith, nat_tests) in
     ap (λ r. and_then r (λ q. Ok (q.order ∷ []))) e
-    ∙ ap (λ n. preceded p.order (orders-from p.next (count + 1) (drop n (low ∷ [])))) (sym one)
-orders-step place count (low ∷ high ∷ rest) p e =
-    let h = order-ends place count (low ∷ high ∷ rest) p e in
-    let pick : cond (ltb low 128) (orders-from (place + 1) (count + 1) (high ∷ rest)) (orders-from (place + 2) (count + 1) rest)
-    ≡ orders-from p.next (count + 1) (drop (span (low ∷ high ∷ rest)) (low ∷ high ∷ rest)) = rest_of (ltb low 128) h.0 in
-    ap (λ r. and_then r (λ q. preceded q.order (cond (ltb low 128) (orders-from (place + 1) (count + 1) (high ∷ rest)) (orders-from (place + 2) (count + 1) rest)))) e
+    ∙ ap (λ n. preceded p.order (orders_from p.next (count + 1) (drop n (low ∷ [])))) (sym one)
+orders_step place count (low ∷ high ∷ rest) p e =
+    let h = order_ends place count (low ∷ high ∷ rest) p e in
+    let pick : cond (ltb low 128) (orders_from (place + 1) (count + 1) (high ∷ rest)) (orders_from (place + 2) (count + 1) rest)
+    ≡ orders_from p.next (count + 1) (drop (span (low ∷ high ∷ rest)) (low ∷ high ∷ rest)) = rest_of (ltb low 128) h.0 in
+    ap (λ r. and_then r (λ q. preceded q.order (cond (ltb low 128) (orders_from (place + 1) (count + 1) (high ∷ rest)) (orders_from (place + 2) (count + 1) rest)))) e
     ∙ ap (preceded p.order) pick
   where
     rest_of : (b : Bool) → p.next ≡ place + cond b 1 2
-        → cond b (orders-from (place + 1) (count + 1) (high ∷ rest)) (orders-from (place + 2) (count + 1) rest)
-        ≡ orders-from p.next (count + 1) (drop (cond b 1 2) (low ∷ high ∷ rest))
-    rest_of true h = ap (λ k. orders-from k (count + 1) (high ∷ rest)) (sym h)
-    rest_of false h = ap (λ k. orders-from k (count + 1) rest) (sym h)
+        → cond b (orders_from (place + 1) (count + 1) (high ∷ rest)) (orders_from (place + 2) (count + 1) rest)
+        ≡ orders_from p.next (count + 1) (drop (cond b 1 2) (low ∷ high ∷ rest))
+    rest_of true h = ap (λ k. orders_from k (count + 1) (high ∷ rest)) (sym h)
+    rest_of false h = ap (λ k. orders_from k (count + 1) rest) (sym h)
 
-pub orders-fault : (place count : ℕ) (bytes : List ℕ) (f : ScheduleFault) → 0 < length bytes → order_from place count bytes ≡ Err f → orders-from place count bytes ≡ Err f
-unfolding orders-from
-orders-fault place count [] f l e = absurd (omega arith)
-orders-fault place count (low ∷ []) f l e = ap (λ r. and_then r (λ q. Ok (q.order ∷ []))) e
-orders-fault place count (low ∷ high ∷ rest) f l e =
-    ap (λ r. and_then r (λ q. preceded q.order (cond (ltb low 128) (orders-from (place + 1) (count + 1) (high ∷ rest)) (orders-from (place + 2) (count + 1) rest)))) e
+pub orders_fault : (place count : ℕ) (bytes : List ℕ) (f : ScheduleFault) → 0 < length bytes → order_from place count bytes ≡ Err f → orders_from place count bytes ≡ Err f
+unfolding orders_from
+orders_fault place count [] f l e = absurd (omega arith)
+orders_fault place count (low ∷ []) f l e = ap (λ r. and_then r (λ q. Ok (q.order ∷ []))) e
+orders_fault place count (low ∷ high ∷ rest) f l e =
+    ap (λ r. and_then r (λ q. preceded q.order (cond (ltb low 128) (orders_from (place + 1) (count + 1) (high ∷ rest)) (orders_from (place + 2) (count + 1) rest)))) e
 
-pub orders-end : (place count : ℕ) → orders-from place count [] ≡ Ok []
-unfolding orders-from
-orders-end place count = refl
+pub orders_end : (place count : ℕ) → orders_from place count [] ≡ Ok []
+unfolding orders_from
+orders_end place count = refl
 
 -- the same at a place of a file
 module _ (file : List ℕ) (at count : ℕ) (p : Placed) (e : order_from at count (drop at file) ≡ Ok p) where
-  pub step-at : orders-from at count (drop at file) ≡ preceded p.order (orders-from p.next (count + 1) (drop p.next file))
-  step-at =
-      orders-step at count (drop at file) p e
-      ∙ ap (λ xs. preceded p.order (orders-from p.next (count + 1) xs))
-      (drop-drop (span (drop at file)) at file ∙ ap (λ n. drop n file) (sym (order-ends at count (drop at file) p e).0))
+  pub step_at : orders_from at count (drop at file) ≡ preceded p.order (orders_from p.next (count + 1) (drop p.next file))
+  step_at =
+      orders_step at count (drop at file) p e
+      ∙ ap (λ xs. preceded p.order (orders_from p.next (count + 1) xs))
+      (drop-drop (span (drop at file)) at file ∙ ap (λ n. drop n file) (sym (order_ends at count (drop at file) p e).0))
 
-  pub next-at : (at < p.next) × (p.next ≤ length file)
-  next-at =
-      let h = order-ends at count (drop at file) p e in
+  pub next_at : (at < p.next) × (p.next ≤ length file)
+  next_at =
+      let h = order_ends at count (drop at file) p e in
       let l = length-drop at file in
       (omega arith, omega arith)

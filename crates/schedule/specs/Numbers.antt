@@ -12,13 +12,13 @@ use Rattle.schedule.specs.declared.fault.NumberFault.TheVariants.{Cut, Padded, L
 abbrev pub groups : ℕ → List ℕ
 groups k = cond (nat_lt k 128) (k ∷ []) ((k % 128 + 128) ∷ (k / 128) ∷ [])
 
-abbrev pub group-list : Groups → List ℕ
-group-list (One low) = low ∷ []
-group-list (Two low high) = low ∷ high ∷ []
+abbrev pub group_list : Groups → List ℕ
+group_list (One low) = low ∷ []
+group_list (Two low high) = low ∷ high ∷ []
 
 -- the number of two groups, of which the second ends it and is not 0
-abbrev pub two-groups : ℕ → ℕ → ℕ → Result Number NumberFault
-two-groups place low high =
+abbrev pub two_groups : ℕ → ℕ → ℕ → Result Number NumberFault
+two_groups place low high =
     cond (nat_lt high 128)
     (cond (high == 0) (Err (Padded place)) (Ok (record { value = low % 128 + 128 * high; next = place + 2 })))
     (Err (Large place))
@@ -30,16 +30,16 @@ front (low ∷ []) = F.Last low
 front (low ∷ high ∷ rest) = F.Two low high
 
 -- so many bytes are there
-abbrev pub front-within : ℕ → ℕ → Front → Type 0
-front-within place end F.Nothing = Unit {0}
-front-within place end (F.Last low) = place + 1 ≤ end
-front-within place end (F.Two low high) = place + 2 ≤ end
+abbrev pub front_within : ℕ → ℕ → Front → Type 0
+front_within place end F.Nothing = Unit {0}
+front_within place end (F.Last low) = place + 1 ≤ end
+front_within place end (F.Two low high) = place + 2 ≤ end
 
 abbrev pub number_of : ℕ → Front → Result Number NumberFault
 number_of place F.Nothing = Err (Cut place)
 number_of place (F.Last low) = cond (nat_lt low 128) (Ok (record { value = low; next = place + 1 })) (Err (Cut place))
-number_of place (F.Two low high) = cond (nat_lt low 128) (Ok (record { value = low; next = place + 1 })) (two-groups place low high)
+number_of place (F.Two low high) = cond (nat_lt low 128) (Ok (record { value = low; next = place + 1 })) (two_groups place low high)
 
 -- the number that the bytes from a place on begin with, and the place after it
-abbrev pub number-from : ℕ → List ℕ → Result Number NumberFault
-number-from place bytes = number_of place (front bytes)
+abbrev pub number_from : ℕ → List ℕ → Result Number NumberFault
+number_from place bytes = number_of place (front bytes)

@@ -3,19 +3,19 @@ use Rattle.std.specs.Prelude.{ℕ, ◌+◌, ◌*◌, ◌/◌, ◌%◌, cond, Som
 use Rattle.schedule.specs.declared.order.Order.{Order}
 use Rattle.schedule.specs.declared.order.Order.TheVariants.{Begin, Step, Leave}
 
-abbrev pub order-number : Order → ℕ
-order-number (Begin arm) = 4 * arm
-order-number (Step arm) = 4 * arm + 1
-order-number (Leave arm) = 4 * arm + 2
+abbrev pub order_number : Order → ℕ
+order_number (Begin arm) = 4 * arm
+order_number (Step arm) = 4 * arm + 1
+order_number (Leave arm) = 4 * arm + 2
 
-abbrev pub arm-of : Order → ℕ
-arm-of (Begin arm) = arm
-arm-of (Step arm) = arm
-arm-of (Leave arm) = arm
+abbrev pub arm_of : Order → ℕ
+arm_of (Begin arm) = arm
+arm_of (Step arm) = arm
+arm_of (Leave arm) = arm
 
 -- kind 3 is no order
-abbrev pub order-of : ℕ → Option Order
-order-of k =
+abbrev pub order_of : ℕ → Option Order
+order_of k =
     cond (k % 4 == 0) (Some (Begin (k / 4)))
     (cond (k % 4 == 1) (Some (Step (k / 4)))
     (cond (k % 4 == 2) (Some (Leave (k / 4)))

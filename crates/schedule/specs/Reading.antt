@@ -10,10 +10,10 @@ use Rattle.schedule.specs.declared.fault.ScheduleFault.{ScheduleFault}
 use Rattle.schedule.specs.declared.fault.ScheduleFault.TheVariants as S
 use Rattle.schedule.specs.declared.fault.PlayFault.{PlayFault}
 use Rattle.schedule.specs.declared.fault.PlayFault.TheVariants.{LongFile, Schedule, Full}
-use Rattle.schedule.specs.Limits.{arm-count, file-limit}
-use Rattle.schedule.specs.Memory.{put-into}
-use Rattle.schedule.specs.Numbers.{number-from}
-use Rattle.schedule.specs.Orders.{order-of}
+use Rattle.schedule.specs.Limits.{arm_count, file_limit}
+use Rattle.schedule.specs.Memory.{put_into}
+use Rattle.schedule.specs.Numbers.{number_from}
+use Rattle.schedule.specs.Orders.{order_of}
 
 -- an arm count and the orders after it
 pub record Contents : Type 0 where
@@ -29,25 +29,25 @@ and_then (Ok x) f = f x
 and_then (Err e) f = Err e
 
 -- a fault is carried whole into the layer above
-abbrev pub with-count : {X : Type 0} → ℕ → Result X NumberFault → Result X Counted
-with-count count (Ok x) = Ok x
-with-count count (Err fault) = Err (record { fault = fault; order = count })
+abbrev pub with_count : {X : Type 0} → ℕ → Result X NumberFault → Result X Counted
+with_count count (Ok x) = Ok x
+with_count count (Err fault) = Err (record { fault = fault; order = count })
 
-abbrev pub in-schedule : {X : Type 0} → Result X Counted → Result X ScheduleFault
-in-schedule (Ok x) = Ok x
-in-schedule (Err c) = Err (S.Number c.fault c.order)
+abbrev pub in_schedule : {X : Type 0} → Result X Counted → Result X ScheduleFault
+in_schedule (Ok x) = Ok x
+in_schedule (Err c) = Err (S.Number c.fault c.order)
 
-abbrev pub in-play : {X : Type 0} → Result X ScheduleFault → Result X PlayFault
-in-play (Ok x) = Ok x
-in-play (Err fault) = Err (Schedule fault)
+abbrev pub in_play : {X : Type 0} → Result X ScheduleFault → Result X PlayFault
+in_play (Ok x) = Ok x
+in_play (Err fault) = Err (Schedule fault)
 
 -- the count-th number of a file, which begins at a place, and what follows from it
 abbrev pub numbered : {X : Type 0} → ℕ → ℕ → List ℕ → (Number → Result X ScheduleFault) → Result X ScheduleFault
-numbered place count bytes f = and_then (in-schedule (with-count count (number-from place bytes))) f
+numbered place count bytes f = and_then (in_schedule (with_count count (number_from place bytes))) f
 
 -- the first number is the arm count
-abbrev pub arms-from : List ℕ → Result Number ScheduleFault
-arms-from bytes = numbered 0 0 bytes (λ n. cond (arm-count n.value) (Ok n) (Err S.ArmCount))
+abbrev pub arms_from : List ℕ → Result Number ScheduleFault
+arms_from bytes = numbered 0 0 bytes (λ n. cond (arm_count n.value) (Ok n) (Err S.ArmCount))
 
 -- each further one is an order, of a kind that is known
 abbrev pub known : ℕ → ℕ → ℕ → Option Order → Result Placed ScheduleFault
@@ -55,7 +55,7 @@ known place count after (Some o) = Ok (record { order = o; next = after })
 known place count after None = Err (S.UnknownOrder place count)
 
 abbrev pub order_from : ℕ → ℕ → List ℕ → Result Placed ScheduleFault
-order_from place count bytes = numbered place count bytes (λ n. known place count n.next (order-of n.value))
+order_from place count bytes = numbered place count bytes (λ n. known place count n.next (order_of n.value))
 
 -- an order and those after it
 abbrev pub preceded : Order → Result (List Order) ScheduleFault → Result (List Order) ScheduleFault
@@ -63,34 +63,34 @@ preceded o (Ok os) = Ok (o ∷ os)
 preceded o (Err fault) = Err fault
 
 -- the orders from a place to the end, the first of them the count-th: a number has one byte, or two if its first says so
-unfoldable pub orders-from : ℕ → ℕ → List ℕ → Result (List Order) ScheduleFault
-orders-from place count [] = Ok []
-orders-from place count (low ∷ []) = and_then (order_from place count (low ∷ [])) (λ p. Ok (p.order ∷ []))
-orders-from place count (low ∷ high ∷ rest) =
-    let one = orders-from (place + 1) (count + 1) (high ∷ rest) in
-    let two = orders-from (place + 2) (count + 1) rest in
+unfoldable pub orders_from : ℕ → ℕ → List ℕ → Result (List Order) ScheduleFault
+orders_from place count [] = Ok []
+orders_from place count (low ∷ []) = and_then (order_from place count (low ∷ [])) (λ p. Ok (p.order ∷ []))
+orders_from place count (low ∷ high ∷ rest) =
+    let one = orders_from (place + 1) (count + 1) (high ∷ rest) in
+    let two = orders_from (place + 2) (count + 1) rest in
     and_then (order_from place count (low ∷ high ∷ rest)) (λ p. preceded p.order (cond (nat_lt low 128) one two))
 
-abbrev pub order-count : Result (List Order) ScheduleFault → Result ℕ ScheduleFault
-order-count (Ok os) = Ok (length os)
-order-count (Err fault) = Err fault
+abbrev pub order_count : Result (List Order) ScheduleFault → Result ℕ ScheduleFault
+order_count (Ok os) = Ok (length os)
+order_count (Err fault) = Err fault
 
-abbrev pub contents-from : Number → List ℕ → Result Contents ScheduleFault
-contents-from n bytes =
-    and_then (orders-from n.next 1 (drop n.next bytes)) (λ os. Ok (contents n.value os))
+abbrev pub contents_from : Number → List ℕ → Result Contents ScheduleFault
+contents_from n bytes =
+    and_then (orders_from n.next 1 (drop n.next bytes)) (λ os. Ok (contents n.value os))
 
 abbrev pub says : List ℕ → Result Contents PlayFault
 says bytes =
-    cond (nat_le (length bytes) file-limit)
-    (in-play (and_then (arms-from bytes) (λ n. contents-from n bytes)))
+    cond (nat_le (length bytes) file_limit)
+    (in_play (and_then (arms_from bytes) (λ n. contents_from n bytes)))
     (Err LongFile)
 
 abbrev pub heading : Contents → Heading
 heading c = record { arms = c.arms; orders = length c.orders }
 
-abbrev pub heading-of : Result Contents PlayFault → Result Heading PlayFault
-heading-of (Ok c) = Ok (heading c)
-heading-of (Err fault) = Err fault
+abbrev pub heading_of : Result Contents PlayFault → Result Heading PlayFault
+heading_of (Ok c) = Ok (heading c)
+heading_of (Err fault) = Err fault
 
 -- what the reader answers, into memory for so many orders
 abbrev pub read_answer : Result Contents PlayFault → ℕ → Result Heading PlayFault
@@ -98,6 +98,6 @@ read_answer (Ok c) room = cond (nat_le (length c.orders) room) (Ok (heading c)) 
 read_answer (Err fault) room = Err fault
 
 -- what the memory then holds
-abbrev pub read-memory : Result Contents PlayFault → List Order → List Order
-read-memory (Ok c) memory = put-into memory c.orders
-read-memory (Err fault) memory = memory
+abbrev pub read_memory : Result Contents PlayFault → List Order → List Order
+read_memory (Ok c) memory = put_into memory c.orders
+read_memory (Err fault) memory = memory

@@ -3,54 +3,54 @@ use Rattle.std.specs.Prelude.{ℕ, Bool, true, cond, ◌&&◌, List, [], ◌∷�
 use Rattle.schedule.specs.declared.order.Order.{Order}
 use Rattle.schedule.specs.declared.writer.WriteRefusal.{WriteRefusal}
 use Rattle.schedule.specs.declared.writer.WriteRefusal.TheVariants.{ArmCount, Large, LongFile, Full}
-use Rattle.schedule.specs.Limits.{arm-count, file-limit, largest-number}
-use Rattle.schedule.specs.Memory.{put-into}
+use Rattle.schedule.specs.Limits.{arm_count, file_limit, largest_number}
+use Rattle.schedule.specs.Memory.{put_into}
 use Rattle.schedule.specs.Numbers.{groups}
-use Rattle.schedule.specs.Orders.{order-number}
+use Rattle.schedule.specs.Orders.{order_number}
 
-abbrev pub refusal-number : WriteRefusal → ℕ
-refusal-number ArmCount = 14
-refusal-number Large = 13
-refusal-number LongFile = 9
-refusal-number Full = 16
+abbrev pub refusal_number : WriteRefusal → ℕ
+refusal_number ArmCount = 14
+refusal_number Large = 13
+refusal_number LongFile = 9
+refusal_number Full = 16
 
-unfoldable pub order-bytes : List Order → List ℕ
-order-bytes [] = []
-order-bytes (o ∷ os) = groups (order-number o) ++ order-bytes os
+unfoldable pub order_bytes : List Order → List ℕ
+order_bytes [] = []
+order_bytes (o ∷ os) = groups (order_number o) ++ order_bytes os
 
-abbrev pub file-bytes : ℕ → List Order → List ℕ
-file-bytes arms orders = groups arms ++ order-bytes orders
+abbrev pub file_bytes : ℕ → List Order → List ℕ
+file_bytes arms orders = groups arms ++ order_bytes orders
 
 -- no order's number is too large
-abbrev pub small-orders : List Order → Bool
-small-orders [] = true
-small-orders (o ∷ os) = nat_le (order-number o) largest-number && small-orders os
+abbrev pub small_orders : List Order → Bool
+small_orders [] = true
+small_orders (o ∷ os) = nat_le (order_number o) largest_number && small_orders os
 
 -- the file, or the refusal that comes first
-abbrev pub file-of : ℕ → List Order → Result (List ℕ) WriteRefusal
-file-of arms orders =
-    cond (arm-count arms)
-    (cond (small-orders orders)
-    (cond (nat_le (length (file-bytes arms orders)) file-limit) (Ok (file-bytes arms orders)) (Err LongFile))
+abbrev pub file_of : ℕ → List Order → Result (List ℕ) WriteRefusal
+file_of arms orders =
+    cond (arm_count arms)
+    (cond (small_orders orders)
+    (cond (nat_le (length (file_bytes arms orders)) file_limit) (Ok (file_bytes arms orders)) (Err LongFile))
     (Err Large))
     (Err ArmCount)
 
-abbrev pub length-of : Result (List ℕ) WriteRefusal → Result ℕ WriteRefusal
-length-of (Ok file) = Ok (length file)
-length-of (Err refusal) = Err refusal
+abbrev pub length_of : Result (List ℕ) WriteRefusal → Result ℕ WriteRefusal
+length_of (Ok file) = Ok (length file)
+length_of (Err refusal) = Err refusal
 
-abbrev pub length-or-full : Result (List ℕ) WriteRefusal → ℕ → Result ℕ WriteRefusal
-length-or-full (Ok file) room = cond (nat_le (length file) room) (Ok (length file)) (Err Full)
-length-or-full (Err refusal) room = Err refusal
+abbrev pub length_or_full : Result (List ℕ) WriteRefusal → ℕ → Result ℕ WriteRefusal
+length_or_full (Ok file) room = cond (nat_le (length file) room) (Ok (length file)) (Err Full)
+length_or_full (Err refusal) room = Err refusal
 
 -- what the writer answers, into memory for so many bytes
-abbrev pub write-answer : ℕ → List Order → ℕ → Result ℕ WriteRefusal
-write-answer arms orders room = length-or-full (file-of arms orders) room
+abbrev pub write_answer : ℕ → List Order → ℕ → Result ℕ WriteRefusal
+write_answer arms orders room = length_or_full (file_of arms orders) room
 
-abbrev pub file-or-nothing : Result (List ℕ) WriteRefusal → List ℕ → List ℕ
-file-or-nothing (Ok file) memory = put-into memory file
-file-or-nothing (Err refusal) memory = memory
+abbrev pub file_or_nothing : Result (List ℕ) WriteRefusal → List ℕ → List ℕ
+file_or_nothing (Ok file) memory = put_into memory file
+file_or_nothing (Err refusal) memory = memory
 
 -- what the memory then holds
-abbrev pub write-memory : ℕ → List Order → List ℕ → List ℕ
-write-memory arms orders memory = file-or-nothing (file-of arms orders) memory
+abbrev pub write_memory : ℕ → List Order → List ℕ → List ℕ
+write_memory arms orders memory = file_or_nothing (file_of arms orders) memory

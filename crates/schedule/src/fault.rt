@@ -1,7 +1,7 @@
 ghost use Rattle.std.specs.Prelude.{◌≡◌};
 ghost use Rattle.schedule.specs.declared.fault.ScheduleFault.TheVariants as S;
 ghost use Rattle.schedule.specs.declared.fault.PlayFault.TheVariants as P;
-ghost use Rattle.schedule.specs.Faults.{fault-number, fault-place, fault-order, fault-layer};
+ghost use Rattle.schedule.specs.Faults.{fault_number, fault_place, fault_order, fault_layer};
 
 // What is wrong with a number, and the place of its first byte.
 #[derive(Clone, Copy)]
@@ -66,7 +66,7 @@ impl From<ScheduleFault> for PlayFault {
 impl PlayFault {
     // The number that a fault is known by.
     pub fn number(self) -> u8
-        ensures { result ≡ fault-number self }
+        ensures { result ≡ fault_number self }
     {
         match self {
             PlayFault::LongFile => 9,
@@ -97,7 +97,7 @@ impl PlayFault {
 
     // The first byte of the faulty number, or 0.
     pub fn place(self) -> usize
-        ensures { result ≡ fault-place self }
+        ensures { result ≡ fault_place self }
     {
         match self {
             PlayFault::Schedule(ScheduleFault::Number { fault, .. }) => match fault {
@@ -112,7 +112,7 @@ impl PlayFault {
 
     // The count of the faulty number's order, or 0.
     pub fn order(self) -> usize
-        ensures { result ≡ fault-order self }
+        ensures { result ≡ fault_order self }
     {
         match self {
             PlayFault::Schedule(ScheduleFault::Number { order, .. }) => order,
@@ -123,7 +123,7 @@ impl PlayFault {
 
     // The layer that found the fault.
     pub fn layer(self) -> Layer
-        ensures { result ≡ fault-layer self }
+        ensures { result ≡ fault_layer self }
     {
         match self {
             PlayFault::Schedule(ScheduleFault::Number { .. }) => Layer::Number,

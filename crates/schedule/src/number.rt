@@ -1,6 +1,6 @@
 ghost use Rattle.std.specs.Prelude.{◌≡◌, ◌≤◌, length, drop};
-ghost use Rattle.schedule.specs.Limits.{largest-number};
-ghost use Rattle.schedule.specs.Numbers.{front, front-within, number-from, groups, group-list};
+ghost use Rattle.schedule.specs.Limits.{largest_number};
+ghost use Rattle.schedule.specs.Numbers.{front, front_within, number_from, groups, group_list};
 
 use crate::fault::NumberFault;
 
@@ -32,7 +32,7 @@ pub(crate) enum Groups {
 // The bytes at a place that a number there can take up.
 fn front_at(file: &[u8], at: usize) -> Front
     ensures bytes { result ≡ front (drop at file.now) }
-    ensures within { front-within at (length file.now) result }
+    ensures within { front_within at (length file.now) result }
 {
     if at >= file.len() {
         return Front::Nothing;
@@ -46,7 +46,7 @@ fn front_at(file: &[u8], at: usize) -> Front
 
 // The number that begins at a place.
 pub fn number_at(file: &[u8], at: usize) -> Result<Number, NumberFault>
-    ensures { result ≡ number-from at (drop at file.now) }
+    ensures { result ≡ number_from at (drop at file.now) }
 {
     match front_at(file, at) {
         Front::Nothing => Err(NumberFault::Cut { place: at }),
@@ -70,8 +70,8 @@ pub fn number_at(file: &[u8], at: usize) -> Result<Number, NumberFault>
 
 // The bytes that a number is written as.
 pub(crate) fn groups_of(number: u16) -> Groups
-    requires { number ≤ largest-number }
-    ensures { group-list result ≡ groups number }
+    requires { number ≤ largest_number }
+    ensures { group_list result ≡ groups number }
 {
     if number < GROUP {
         Groups::One(number as u8)

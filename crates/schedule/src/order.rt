@@ -1,5 +1,5 @@
 ghost use Rattle.std.specs.Prelude.{◌≡◌};
-ghost use Rattle.schedule.specs.Orders.{order-number, order-of};
+ghost use Rattle.schedule.specs.Orders.{order_number, order_of};
 
 // What an arm is to do.
 #[derive(Clone, Copy)]
@@ -12,7 +12,7 @@ pub enum Order {
 impl Order {
     // Four times the arm, and the kind.
     pub fn number(self) -> u32
-        ensures { result ≡ order-number self }
+        ensures { result ≡ order_number self }
     {
         match self {
             Order::Begin(arm) => 4 * u32::from(arm),
@@ -23,7 +23,7 @@ impl Order {
 
     // The order that has this number; none has kind 3.
     pub fn from_number(number: u16) -> Option<Order>
-        ensures { result ≡ order-of number }
+        ensures { result ≡ order_of number }
     {
         let arm = number / 4;
         match number % 4 {

@@ -1,7 +1,7 @@
 ghost use Rattle.std.specs.Prelude.{◌≡◌, ◌≤◌, length, drop, Ok};
-ghost use Rattle.schedule.specs.Laws.{Was-read};
-ghost use Rattle.schedule.specs.Numbers.{number-from};
-ghost use Rattle.schedule.specs.Reading.{with-count, arms-from, order_from, orders-from, order-count, says, heading-of, read_answer, read-memory};
+ghost use Rattle.schedule.specs.Laws.{WasRead};
+ghost use Rattle.schedule.specs.Numbers.{number_from};
+ghost use Rattle.schedule.specs.Reading.{with_count, arms_from, order_from, orders_from, order_count, says, heading_of, read_answer, read_memory};
 
 use crate::fault::{Counted, PlayFault, ScheduleFault};
 use crate::limit::{ARM_LIMIT, FILE_LIMIT};
@@ -24,7 +24,7 @@ pub struct Placed {
 
 // The number at a place, its fault with the count of the order that it stands for.
 fn counted(file: &[u8], at: usize, count: usize) -> Result<Number, Counted>
-    ensures { result ≡ with-count count (number-from at (drop at file.now)) }
+    ensures { result ≡ with_count count (number_from at (drop at file.now)) }
 {
     match number_at(file, at) {
         Ok(number) => Ok(number),
@@ -37,7 +37,7 @@ fn counted(file: &[u8], at: usize, count: usize) -> Result<Number, Counted>
 
 // The arm count, the first number of a file, and the place after it.
 pub fn arms_of(file: &[u8]) -> Result<Number, ScheduleFault>
-    ensures { result ≡ arms-from file.now }
+    ensures { result ≡ arms_from file.now }
 {
     let number = counted(file, 0, 0)?;
     if number.value == 0 || usize::from(number.value) > ARM_LIMIT {
@@ -65,7 +65,7 @@ pub fn order_at(file: &[u8], at: usize, count: usize) -> Result<Placed, Schedule
 
 // How many orders stand from a place to the end of a file.
 fn count_orders(file: &[u8], from: usize) -> Result<usize, ScheduleFault>
-    ensures { result ≡ order-count (orders-from from 1 (drop from file.now)) }
+    ensures { result ≡ order_count (orders_from from 1 (drop from file.now)) }
 {
     let mut at = from;
     let mut count = 0;
@@ -79,7 +79,7 @@ fn count_orders(file: &[u8], from: usize) -> Result<usize, ScheduleFault>
 
 // Goes through a whole file: its heading, or its first fault.
 pub fn check(file: &[u8]) -> Result<Heading, PlayFault>
-    ensures { result ≡ heading-of (says file.now) }
+    ensures { result ≡ heading_of (says file.now) }
 {
     if file.len() > FILE_LIMIT {
         return Err(PlayFault::LongFile);
@@ -94,11 +94,11 @@ pub fn check(file: &[u8]) -> Result<Heading, PlayFault>
 
 // Puts the orders of a file that is checked into memory that is long enough.
 fn put_orders(file: &[u8], heading: Heading, orders: &mut [Order]) -> Result<Heading, PlayFault>
-    requires checked { Ok heading ≡ heading-of (says file.now) }
+    requires checked { Ok heading ≡ heading_of (says file.now) }
     requires room { heading.orders ≤ length orders.old }
     ensures answer { result ≡ Ok heading }
-    ensures memory { orders.new ≡ read-memory (says file.now) orders.old }
-    ensures inverse { Was-read result file.now orders.new }
+    ensures memory { orders.new ≡ read_memory (says file.now) orders.old }
+    ensures inverse { WasRead result file.now orders.new }
 {
     let mut at = arms_of(file)?.next;
     for i in 0..heading.orders {
@@ -112,8 +112,8 @@ fn put_orders(file: &[u8], heading: Heading, orders: &mut [Order]) -> Result<Hea
 // Puts the orders of a file at the start of the memory. A refusal leaves the memory as it was.
 pub fn read(file: &[u8], orders: &mut [Order]) -> Result<Heading, PlayFault>
     ensures answer { result ≡ read_answer (says file.now) (length orders.old) }
-    ensures memory { orders.new ≡ read-memory (says file.now) orders.old }
-    ensures inverse { Was-read result file.now orders.new }
+    ensures memory { orders.new ≡ read_memory (says file.now) orders.old }
+    ensures inverse { WasRead result file.now orders.new }
 {
     let heading = check(file)?;
     if heading.orders > orders.len() {

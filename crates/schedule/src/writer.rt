@@ -1,8 +1,8 @@
 ghost use Rattle.std.specs.Prelude.{◌≡◌, ◌+◌, ◌≤◌, ◌++◌, length, take, drop, is_ok, Ok, Decides};
-ghost use Rattle.schedule.specs.Laws.{Inverse, Lawful, Was-written};
-ghost use Rattle.schedule.specs.Numbers.{group-list};
+ghost use Rattle.schedule.specs.Laws.{Inverse, Lawful, WasWritten};
+ghost use Rattle.schedule.specs.Numbers.{group_list};
 ghost use Rattle.schedule.specs.Reading.{contents};
-ghost use Rattle.schedule.specs.Writing.{refusal-number, file-bytes, file-of, length-of, write-answer, write-memory};
+ghost use Rattle.schedule.specs.Writing.{refusal_number, file_bytes, file_of, length_of, write_answer, write_memory};
 
 use crate::limit::{ARM_LIMIT, FILE_LIMIT, LARGEST_NUMBER};
 use crate::number::{Groups, groups_of};
@@ -20,7 +20,7 @@ pub enum WriteRefusal {
 impl WriteRefusal {
     // The number that a refusal is known by.
     pub fn number(self) -> u8
-        ensures { result ≡ refusal-number self }
+        ensures { result ≡ refusal_number self }
     {
         match self {
             WriteRefusal::ArmCount => 14,
@@ -33,7 +33,7 @@ impl WriteRefusal {
 
 // How many bytes a number has.
 fn width(bytes: Groups) -> usize
-    ensures { result ≡ length (group-list bytes) }
+    ensures { result ≡ length (group_list bytes) }
 {
     match bytes {
         Groups::One(_) => 1,
@@ -43,9 +43,9 @@ fn width(bytes: Groups) -> usize
 
 // Writes a number's bytes at a place, and answers the place after them.
 fn put(out: &mut [u8], at: usize, bytes: Groups) -> usize
-    requires { at + length (group-list bytes) ≤ length out.old }
-    ensures end { result ≡ at + length (group-list bytes) }
-    ensures after { out.new ≡ take at out.old ++ (group-list bytes ++ drop (at + length (group-list bytes)) out.old) }
+    requires { at + length (group_list bytes) ≤ length out.old }
+    ensures end { result ≡ at + length (group_list bytes) }
+    ensures after { out.new ≡ take at out.old ++ (group_list bytes ++ drop (at + length (group_list bytes)) out.old) }
 {
     match bytes {
         Groups::One(low) => {
@@ -62,7 +62,7 @@ fn put(out: &mut [u8], at: usize, bytes: Groups) -> usize
 
 // How many bytes the file of a list has.
 fn measure(arms: usize, orders: &[Order]) -> Result<usize, WriteRefusal>
-    ensures { result ≡ length-of (file-of arms orders.now) }
+    ensures { result ≡ length_of (file_of arms orders.now) }
 {
     if arms == 0 || arms > ARM_LIMIT {
         return Err(WriteRefusal::ArmCount);
@@ -83,11 +83,11 @@ fn measure(arms: usize, orders: &[Order]) -> Result<usize, WriteRefusal>
 
 // Writes the file of a list at the start of memory that is long enough.
 fn fill(arms: usize, orders: &[Order], out: &mut [u8]) -> usize
-    requires lawful { file-of arms orders.now ≡ Ok (file-bytes arms orders.now) }
-    requires room { length (file-bytes arms orders.now) ≤ length out.old }
-    ensures end { result ≡ length (file-bytes arms orders.now) }
-    ensures after { out.new ≡ file-bytes arms orders.now ++ drop (length (file-bytes arms orders.now)) out.old }
-    ensures inverse { Was-written (Ok result) (contents arms orders.now) out.new }
+    requires lawful { file_of arms orders.now ≡ Ok (file_bytes arms orders.now) }
+    requires room { length (file_bytes arms orders.now) ≤ length out.old }
+    ensures end { result ≡ length (file_bytes arms orders.now) }
+    ensures after { out.new ≡ file_bytes arms orders.now ++ drop (length (file_bytes arms orders.now)) out.old }
+    ensures inverse { WasWritten (Ok result) (contents arms orders.now) out.new }
 {
     let mut at = put(out, 0, groups_of(arms as u16));
     for (i, order) in orders.iter().enumerate() {
@@ -99,9 +99,9 @@ fn fill(arms: usize, orders: &[Order], out: &mut [u8]) -> usize
 // Writes the file of a list at the start of the memory, and answers its length.
 // A refusal leaves the memory as it was.
 pub fn write(arms: usize, orders: &[Order], out: &mut [u8]) -> Result<usize, WriteRefusal>
-    ensures answer { result ≡ write-answer arms orders.now (length out.old) }
-    ensures memory { out.new ≡ write-memory arms orders.now out.old }
-    ensures inverse { Was-written result (contents arms orders.now) out.new }
+    ensures answer { result ≡ write_answer arms orders.now (length out.old) }
+    ensures memory { out.new ≡ write_memory arms orders.now out.old }
+    ensures inverse { WasWritten result (contents arms orders.now) out.new }
 {
     let size = measure(arms, orders)?;
     if size > out.len() {
@@ -112,7 +112,7 @@ pub fn write(arms: usize, orders: &[Order], out: &mut [u8]) -> Result<usize, Wri
 
 // Whether the writer has a file for a list.
 fn has_file(arms: usize, orders: &[Order]) -> bool
-    ensures { result ≡ is_ok (file-of arms orders.now) }
+    ensures { result ≡ is_ok (file_of arms orders.now) }
 {
     measure(arms, orders).is_ok()
 }

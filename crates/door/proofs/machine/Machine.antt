@@ -1,8 +1,8 @@
 -- The machine that a gate mirrors: what the registers say of an arm is part of the arm's own state.
 use Rattle.std.proofs.Common.{◌≡◌, ℕ, ◌+◌, Bool, true, false, cond, not, ◌&&◌, eqb, ltb, ◌≢◌, Some, None, Option}
 use lib.Dec.{eqb_refl}
-use Rattle.door.specs.Positions.{phase-of}
-use Rattle.door.specs.Tallies.{same-phase}
+use Rattle.door.specs.Positions.{phase_of}
+use Rattle.door.specs.Tallies.{same_phase}
 use Rattle.door.specs.declared.position.Doorway.TheVariants.{D1, D2, D3, D4, D5}
 use Rattle.door.specs.declared.position.Exit.TheVariants.{X1, X2}
 use Rattle.door.specs.declared.position.Phase.{Phase}
@@ -11,7 +11,7 @@ use Rattle.door.specs.declared.position.Place.{Place}
 use Rattle.door.specs.declared.position.Place.TheVariants.{W1, W2, W3, W4, W5, W6}
 use Rattle.door.specs.declared.position.Position.{Position}
 use Rattle.door.specs.declared.position.Position.TheVariants.{Idle, Doorway, Waiting, Inside, Leaving}
-use Rattle.door.proofs.Bools.{same, by, cond-on, cond-off, test-ne}
+use Rattle.door.proofs.Bools.{same, by, cond_on, cond_off, test_ne}
 
 -- an arm: its position, its side, and what its mygroup register holds where that is not its side
 pub data Stance : Type 0 where
@@ -36,7 +36,7 @@ position (x2 s) = Leaving X2
 
 -- by phase
 abbrev pub at : Phase → Stance → Bool
-at p a = same-phase (phase-of (position a)) p
+at p a = same_phase (phase_of (position a)) p
 
 -- the side, from the end of D2 to the end of X2
 abbrev pub side : Stance → Option Bool
@@ -51,13 +51,13 @@ side (inside s o) = Some s
 side (x1 s) = Some s
 side (x2 s) = Some s
 
-abbrev pub is-side : Bool → Option Bool → Bool
-is-side t (Some s) = same t s
-is-side t None = false
+abbrev pub is_side : Bool → Option Bool → Bool
+is_side t (Some s) = same t s
+is_side t None = false
 
 -- the arm has side t
 abbrev pub has : Bool → Stance → Bool
-has t a = is-side t (side a)
+has t a = is_side t (side a)
 
 -- whether its pass is out
 abbrev pub out : Stance → Bool
@@ -113,38 +113,38 @@ flag (x2 s) = true
 abbrev pub next : ℕ → Bool → ℕ → Stance
 next n s j = cond (ltb j n) (waits s (j + 1) W1) (inside s false)
 
-abbrev pub step-waiting : ℕ → Bool → Stance → Bool → ℕ → Place → Stance
-step-waiting n β b s j W1 = cond (same β s) (waits s j W2) (inside s false)
-step-waiting n β b s j W2 = cond (choosing b) (waits s j W2) (waits s j W3)
-step-waiting n β b s j W3 = cond (same (mygroup b) s) (next n s j) (waits s j W4)
-step-waiting n β b s j W4 = cond (flag b) (waits s j W5) (next n s j)
-step-waiting n β b s j W5 = cond (same β s) (waits s j W6) (next n s j)
-step-waiting n β b s j W6 = cond (same (mygroup b) s) (next n s j) (waits s j W4)
+abbrev pub step_waiting : ℕ → Bool → Stance → Bool → ℕ → Place → Stance
+step_waiting n β b s j W1 = cond (same β s) (waits s j W2) (inside s false)
+step_waiting n β b s j W2 = cond (choosing b) (waits s j W2) (waits s j W3)
+step_waiting n β b s j W3 = cond (same (mygroup b) s) (next n s j) (waits s j W4)
+step_waiting n β b s j W4 = cond (flag b) (waits s j W5) (next n s j)
+step_waiting n β b s j W5 = cond (same β s) (waits s j W6) (next n s j)
+step_waiting n β b s j W6 = cond (same (mygroup b) s) (next n s j) (waits s j W4)
 
 -- it waits on, or goes inside
-next-outcome : (P : Stance → Type 0) (n : ℕ) (s : Bool) → ((j : ℕ) (p : Place) → P (waits s j p)) → P (inside s false) → (j : ℕ) → P (next n s j)
-next-outcome P n s on in' j = by P (ltb j n) (waits s (j + 1) W1) (inside s false) (λ _. on (j + 1) W1) (λ _. in')
+next_outcome : (P : Stance → Type 0) (n : ℕ) (s : Bool) → ((j : ℕ) (p : Place) → P (waits s j p)) → P (inside s false) → (j : ℕ) → P (next n s j)
+next_outcome P n s on in' j = by P (ltb j n) (waits s (j + 1) W1) (inside s false) (λ _. on (j + 1) W1) (λ _. in')
 
 pub outcome : (P : Stance → Type 0) (n : ℕ) (β : Bool) (b : Stance) (s : Bool) → ((j : ℕ) (p : Place) → P (waits s j p)) → P (inside s false)
-    → (j : ℕ) (p : Place) → P (step-waiting n β b s j p)
+    → (j : ℕ) (p : Place) → P (step_waiting n β b s j p)
 outcome P n β b s on in' j W1 = by P (same β s) (waits s j W2) (inside s false) (λ _. on j W2) (λ _. in')
 outcome P n β b s on in' j W2 = by P (choosing b) (waits s j W2) (waits s j W3) (λ _. on j W2) (λ _. on j W3)
-outcome P n β b s on in' j W3 = by P (same (mygroup b) s) (next n s j) (waits s j W4) (λ _. next-outcome P n s on in' j) (λ _. on j W4)
-outcome P n β b s on in' j W4 = by P (flag b) (waits s j W5) (next n s j) (λ _. on j W5) (λ _. next-outcome P n s on in' j)
-outcome P n β b s on in' j W5 = by P (same β s) (waits s j W6) (next n s j) (λ _. on j W6) (λ _. next-outcome P n s on in' j)
-outcome P n β b s on in' j W6 = by P (same (mygroup b) s) (next n s j) (waits s j W4) (λ _. next-outcome P n s on in' j) (λ _. on j W4)
+outcome P n β b s on in' j W3 = by P (same (mygroup b) s) (next n s j) (waits s j W4) (λ _. next_outcome P n s on in' j) (λ _. on j W4)
+outcome P n β b s on in' j W4 = by P (flag b) (waits s j W5) (next n s j) (λ _. on j W5) (λ _. next_outcome P n s on in' j)
+outcome P n β b s on in' j W5 = by P (same β s) (waits s j W6) (next n s j) (λ _. on j W6) (λ _. next_outcome P n s on in' j)
+outcome P n β b s on in' j W6 = by P (same (mygroup b) s) (next n s j) (waits s j W4) (λ _. next_outcome P n s on in' j) (λ _. on j W4)
 
-abbrev pub step-arm : ℕ → Bool → (ℕ → Stance) → Stance → Stance
-step-arm n β arms (idle g) = idle g
-step-arm n β arms (d1 g) = d2 g
-step-arm n β arms (d2 g) = d3 β g
-step-arm n β arms (d3 s g) = d4 s
-step-arm n β arms (d4 s) = d5 s
-step-arm n β arms (d5 s) = waits s 1 W1
-step-arm n β arms (waits s j p) = step-waiting n β (arms j) s j p
-step-arm n β arms (inside s o) = inside s o
-step-arm n β arms (x1 s) = x2 s
-step-arm n β arms (x2 s) = idle s
+abbrev pub step_arm : ℕ → Bool → (ℕ → Stance) → Stance → Stance
+step_arm n β arms (idle g) = idle g
+step_arm n β arms (d1 g) = d2 g
+step_arm n β arms (d2 g) = d3 β g
+step_arm n β arms (d3 s g) = d4 s
+step_arm n β arms (d4 s) = d5 s
+step_arm n β arms (d5 s) = waits s 1 W1
+step_arm n β arms (waits s j p) = step_waiting n β (arms j) s j p
+step_arm n β arms (inside s o) = inside s o
+step_arm n β arms (x1 s) = x2 s
+step_arm n β arms (x2 s) = idle s
 
 -- the group after it
 abbrev pub turn_step : Bool → Stance → Bool
@@ -160,63 +160,63 @@ turn_step β (x1 s) = not s
 turn_step β (x2 s) = β
 
 -- the other moves, of an arm that may make them
-abbrev pub begin-arm : Stance → Stance
-begin-arm (idle g) = d1 g
-begin-arm (d1 g) = d1 g
-begin-arm (d2 g) = d2 g
-begin-arm (d3 s g) = d3 s g
-begin-arm (d4 s) = d4 s
-begin-arm (d5 s) = d5 s
-begin-arm (waits s j p) = waits s j p
-begin-arm (inside s o) = inside s o
-begin-arm (x1 s) = x1 s
-begin-arm (x2 s) = x2 s
+abbrev pub begin_arm : Stance → Stance
+begin_arm (idle g) = d1 g
+begin_arm (d1 g) = d1 g
+begin_arm (d2 g) = d2 g
+begin_arm (d3 s g) = d3 s g
+begin_arm (d4 s) = d4 s
+begin_arm (d5 s) = d5 s
+begin_arm (waits s j p) = waits s j p
+begin_arm (inside s o) = inside s o
+begin_arm (x1 s) = x1 s
+begin_arm (x2 s) = x2 s
 
-abbrev pub admit-arm : Stance → Stance
-admit-arm (idle g) = idle g
-admit-arm (d1 g) = d1 g
-admit-arm (d2 g) = d2 g
-admit-arm (d3 s g) = d3 s g
-admit-arm (d4 s) = d4 s
-admit-arm (d5 s) = d5 s
-admit-arm (waits s j p) = waits s j p
-admit-arm (inside s o) = inside s true
-admit-arm (x1 s) = x1 s
-admit-arm (x2 s) = x2 s
+abbrev pub admit_arm : Stance → Stance
+admit_arm (idle g) = idle g
+admit_arm (d1 g) = d1 g
+admit_arm (d2 g) = d2 g
+admit_arm (d3 s g) = d3 s g
+admit_arm (d4 s) = d4 s
+admit_arm (d5 s) = d5 s
+admit_arm (waits s j p) = waits s j p
+admit_arm (inside s o) = inside s true
+admit_arm (x1 s) = x1 s
+admit_arm (x2 s) = x2 s
 
-abbrev pub leave-arm : Stance → Stance
-leave-arm (idle g) = idle g
-leave-arm (d1 g) = d1 g
-leave-arm (d2 g) = d2 g
-leave-arm (d3 s g) = d3 s g
-leave-arm (d4 s) = d4 s
-leave-arm (d5 s) = d5 s
-leave-arm (waits s j p) = waits s j p
-leave-arm (inside s true) = x1 s
-leave-arm (inside s false) = inside s false
-leave-arm (x1 s) = x1 s
-leave-arm (x2 s) = x2 s
+abbrev pub leave_arm : Stance → Stance
+leave_arm (idle g) = idle g
+leave_arm (d1 g) = d1 g
+leave_arm (d2 g) = d2 g
+leave_arm (d3 s g) = d3 s g
+leave_arm (d4 s) = d4 s
+leave_arm (d5 s) = d5 s
+leave_arm (waits s j p) = waits s j p
+leave_arm (inside s true) = x1 s
+leave_arm (inside s false) = inside s false
+leave_arm (x1 s) = x1 s
+leave_arm (x2 s) = x2 s
 
 pub data Move : Type 0 where
   begin step admit leave : Move
 
-abbrev pub is-step : Move → Bool
-is-step begin = false
-is-step step = true
-is-step admit = false
-is-step leave = false
+abbrev pub is_step : Move → Bool
+is_step begin = false
+is_step step = true
+is_step admit = false
+is_step leave = false
 
-abbrev pub is-begin : Move → Bool
-is-begin begin = true
-is-begin step = false
-is-begin admit = false
-is-begin leave = false
+abbrev pub is_begin : Move → Bool
+is_begin begin = true
+is_begin step = false
+is_begin admit = false
+is_begin leave = false
 
 abbrev pub act : Move → ℕ → Bool → (ℕ → Stance) → Stance → Stance
-act begin n β arms a = begin-arm a
-act step n β arms a = step-arm n β arms a
-act admit n β arms a = admit-arm a
-act leave n β arms a = leave-arm a
+act begin n β arms a = begin_arm a
+act step n β arms a = step_arm n β arms a
+act admit n β arms a = admit_arm a
+act leave n β arms a = leave_arm a
 
 abbrev pub turn : Move → Bool → Stance → Bool
 turn begin β a = β
@@ -225,40 +225,40 @@ turn admit β a = β
 turn leave β a = β
 
 -- which moves an arm may make
-abbrev pub may-step : Stance → Bool
-may-step a = not (at P.I a) && not (at P.F a)
+abbrev pub may_step : Stance → Bool
+may_step a = not (at P.I a) && not (at P.F a)
 
 abbrev pub allowed : Move → Stance → Bool
 allowed begin a = at P.I a
-allowed step a = may-step a
+allowed step a = may_step a
 allowed admit a = at P.F a && not (out a)
 allowed leave a = out a
 
 -- what holds of an arm left alone and of the three moves without an access holds of begin, admit and leave
-pub without-access : (P : Stance → Stance → Type 0) → ((a : Stance) → P a a) → ((g : Bool) → P (idle g) (d1 g))
+pub without_access : (P : Stance → Stance → Type 0) → ((a : Stance) → P a a) → ((g : Bool) → P (idle g) (d1 g))
     → ((s o : Bool) → P (inside s o) (inside s true)) → ((s : Bool) → P (inside s true) (x1 s))
-    → (a : Stance) → P a (begin-arm a) × P a (admit-arm a) × P a (leave-arm a)
-without-access P h begins admits leaves (idle g) = (begins g, h (idle g), h (idle g))
-without-access P h begins admits leaves (d1 g) = (h (d1 g), h (d1 g), h (d1 g))
-without-access P h begins admits leaves (d2 g) = (h (d2 g), h (d2 g), h (d2 g))
-without-access P h begins admits leaves (d3 s g) = (h (d3 s g), h (d3 s g), h (d3 s g))
-without-access P h begins admits leaves (d4 s) = (h (d4 s), h (d4 s), h (d4 s))
-without-access P h begins admits leaves (d5 s) = (h (d5 s), h (d5 s), h (d5 s))
-without-access P h begins admits leaves (waits s j p) = (h (waits s j p), h (waits s j p), h (waits s j p))
-without-access P h begins admits leaves (inside s true) = (h (inside s true), admits s true, leaves s)
-without-access P h begins admits leaves (inside s false) = (h (inside s false), admits s false, h (inside s false))
-without-access P h begins admits leaves (x1 s) = (h (x1 s), h (x1 s), h (x1 s))
-without-access P h begins admits leaves (x2 s) = (h (x2 s), h (x2 s), h (x2 s))
+    → (a : Stance) → P a (begin_arm a) × P a (admit_arm a) × P a (leave_arm a)
+without_access P h begins admits leaves (idle g) = (begins g, h (idle g), h (idle g))
+without_access P h begins admits leaves (d1 g) = (h (d1 g), h (d1 g), h (d1 g))
+without_access P h begins admits leaves (d2 g) = (h (d2 g), h (d2 g), h (d2 g))
+without_access P h begins admits leaves (d3 s g) = (h (d3 s g), h (d3 s g), h (d3 s g))
+without_access P h begins admits leaves (d4 s) = (h (d4 s), h (d4 s), h (d4 s))
+without_access P h begins admits leaves (d5 s) = (h (d5 s), h (d5 s), h (d5 s))
+without_access P h begins admits leaves (waits s j p) = (h (waits s j p), h (waits s j p), h (waits s j p))
+without_access P h begins admits leaves (inside s true) = (h (inside s true), admits s true, leaves s)
+without_access P h begins admits leaves (inside s false) = (h (inside s false), admits s false, h (inside s false))
+without_access P h begins admits leaves (x1 s) = (h (x1 s), h (x1 s), h (x1 s))
+without_access P h begins admits leaves (x2 s) = (h (x2 s), h (x2 s), h (x2 s))
 
 -- a function changed at one place
 abbrev pub changed : (ℕ → Stance) → ℕ → Stance → ℕ → Stance
 changed f i a k = cond (eqb k i) a (f k)
 
-pub changed-same : (f : ℕ → Stance) (i : ℕ) (a : Stance) → changed f i a i ≡ a
-changed-same f i a = cond-on (eqb i i) a (f i) (eqb_refl i)
+pub changed_same : (f : ℕ → Stance) (i : ℕ) (a : Stance) → changed f i a i ≡ a
+changed_same f i a = cond_on (eqb i i) a (f i) (eqb_refl i)
 
-pub changed-other : (f : ℕ → Stance) (i : ℕ) (a : Stance) (k : ℕ) → k ≢ i → changed f i a k ≡ f k
-changed-other f i a k ne = cond-off (eqb k i) a (f k) (test-ne k i ne)
+pub changed_other : (f : ℕ → Stance) (i : ℕ) (a : Stance) (k : ℕ) → k ≢ i → changed f i a k ≡ f k
+changed_other f i a k ne = cond_off (eqb k i) a (f k) (test_ne k i ne)
 
 -- how many arms, the group, the arms (from 1)
 pub record Machine : Type 0 where

@@ -3,190 +3,190 @@ use Rattle.std.proofs.Common.{◌≡◌, ℕ, zero, suc, ◌+◌, ◌-◌, ◌<�
 use lib.Dec.{eqb_refl}
 use Rattle.std.proofs.lemmas.Bool.{cond-false, ne_eqb, le-leb}
 use Rattle.std.proofs.lemmas.List.{get_or-replicate, length-replicate, get_or_append_left, take_more}
-use Rattle.door.specs.Limits.{arm-limit}
-use Rattle.door.specs.Positions.{group, choosing-of, mygroup-of, flag-of, phase-of}
+use Rattle.door.specs.Limits.{arm_limit}
+use Rattle.door.specs.Positions.{group, choosing_of, mygroup_of, flag_of, phase_of}
 use Rattle.door.specs.Arms.{fresh, no_arm}
-use Rattle.door.specs.Tallies.{same-phase}
-use Rattle.door.specs.Making.{room, arms-for, cleared, made-regs}
-use Rattle.door.specs.States.{State, made, is-arm, arm_at, phase-at}
-use Rattle.door.specs.Calls.{begin-refusal, step-refusal, admit-refusal, knows, refusal-of, arm-after, stepped, done, unless, after, run}
-use Rattle.door.specs.History.{no-refusal, moves, steps, step_of, move-of, is-in, goes-inside}
+use Rattle.door.specs.Tallies.{same_phase}
+use Rattle.door.specs.Making.{room, arms_for, cleared, made_regs}
+use Rattle.door.specs.States.{State, made, is_arm, arm_at, phase_at}
+use Rattle.door.specs.Calls.{begin_refusal, step_refusal, admit_refusal, knows, refusal_of, arm_after, stepped, done, unless, after, run}
+use Rattle.door.specs.History.{no_refusal, moves, steps, step_of, move_of, is_in, goes_inside}
 use Rattle.door.specs.declared.call.Call.{Call}
 use Rattle.door.specs.declared.call.Call.TheVariants.{Begin, Step, Admit, Confirm, Leave, Look, Tally, Way}
 use Rattle.door.specs.declared.position.Phase.{Phase}
 use Rattle.door.specs.declared.position.Phase.TheVariants as P
 use Rattle.door.specs.declared.refusal.Refusal.{Refusal}
 use Rattle.door.proofs.Bools.{and_T, T_and, T_true}
-use Rattle.door.proofs.Rooms.{arms-few, arms-fit, length-cleared}
-use Rattle.door.proofs.Accepted.{for-arm-none, begin-none, step-none, admit-none, leave_none, arm_in, known-arm}
-use Rattle.door.proofs.machine.Machine.{Stance, idle, position, at, out, Move, begin, step, admit, leave, is-step, is-begin, allowed, may-step, Machine, moved}
-use Rattle.door.proofs.machine.Invariant.{Inv, inv-moved}
+use Rattle.door.proofs.Rooms.{arms_few, arms_fit, length_cleared}
+use Rattle.door.proofs.Accepted.{for_arm_none, begin_none, step_none, admit_none, leave_none, arm_in, known_arm}
+use Rattle.door.proofs.machine.Machine.{Stance, idle, position, at, out, Move, begin, step, admit, leave, is_step, is_begin, allowed, may_step, Machine, moved}
+use Rattle.door.proofs.machine.Invariant.{Inv, inv_moved}
 use Rattle.door.proofs.rounds.Waiting.{Waiting, Entry}
-use Rattle.door.proofs.machine.Mirror.{Mirror, stepped-at, tallied-mirror, step-mirror, begin-mirror, admit-mirror, leave-mirror}
+use Rattle.door.proofs.machine.Mirror.{Mirror, stepped_at, tallied_mirror, step_mirror, begin_mirror, admit_mirror, leave_mirror}
 
 -- what a call comes to, t being the state after it, and mv and st telling whose accepted move and whose accepted step it is
 pub data Came (g : Machine) (t : State) (mv st : ℕ → Bool) : Type 0 where
   stays : Mirror t g → ((b : ℕ) → mv b ≡ false) → ((b : ℕ) → st b ≡ false) → Came g t mv st
   goes : (m : Move) (i : ℕ) → 1 ≤ i → i ≤ g.n → T (allowed m (g.arms i)) → Mirror t (moved g m i)
-      → ((b : ℕ) → mv b ≡ (not (is-begin m) && eqb i b)) → ((b : ℕ) → st b ≡ (is-step m && eqb i b)) → Came g t mv st
+      → ((b : ℕ) → mv b ≡ (not (is_begin m) && eqb i b)) → ((b : ℕ) → st b ≡ (is_step m && eqb i b)) → Came g t mv st
 
-pub arm_is : (s : State) (i : ℕ) → 1 ≤ i → i ≤ s.n → T (is-arm s i)
-arm_is s i lo hi = T_and (leb 1 i) (leb i s.n) (T-le 1 i lo) (T-le i s.n hi)
+pub arm_is : (s : State) (i : ℕ) → 1 ≤ i → i ≤ s.n → T (is_arm s i)
+arm_is s i lo hi = T_and (leb 1 i) (leb i s.n) (T_le 1 i lo) (T_le i s.n hi)
   where
-    T-le : (a b : ℕ) → a ≤ b → T (leb a b)
-    T-le a b l = T_true (leb a b) (le-leb a b l)
+    T_le : (a b : ℕ) → a ≤ b → T (leb a b)
+    T_le a b l = T_true (leb a b) (le-leb a b l)
 
 module _ (s : State) (g : Machine) (mir : Mirror s g) (inv : Inv g) where
-  by-refusal : (c : Call) → (refusal-of s c ≡ None → Came g (done s c) (λ b. move-of b c) (λ b. step_of b c)) → Came g (after s c) (λ b. moves b s c) (λ b. steps b s c)
-  by-refusal c f = go (refusal-of s c) f
+  by_refusal : (c : Call) → (refusal_of s c ≡ None → Came g (done s c) (λ b. move_of b c) (λ b. step_of b c)) → Came g (after s c) (λ b. moves b s c) (λ b. steps b s c)
+  by_refusal c f = go (refusal_of s c) f
     where
-      go : (r : Option Refusal) → (r ≡ None → Came g (done s c) (λ b. move-of b c) (λ b. step_of b c))
-          → Came g (unless r (done s c) s) (λ b. no-refusal r && move-of b c) (λ b. no-refusal r && step_of b c)
+      go : (r : Option Refusal) → (r ≡ None → Came g (done s c) (λ b. move_of b c) (λ b. step_of b c))
+          → Came g (unless r (done s c) s) (λ b. no_refusal r && move_of b c) (λ b. no_refusal r && step_of b c)
       go None f = f refl
       go (Some x) f = stays mir (λ b. refl) (λ b. refl)
 
-  step-came : (i : ℕ) → refusal-of s (Step i) ≡ None → Came g (stepped i s) (λ b. eqb i b) (λ b. eqb i b)
-  step-came i e =
-      let r = known-arm s i (step-refusal (phase-at s i)) e in
+  step_came : (i : ℕ) → refusal_of s (Step i) ≡ None → Came g (stepped i s) (λ b. eqb i b) (λ b. eqb i b)
+  step_came i e =
+      let r = known_arm s i (step_refusal (phase_at s i)) e in
       let h = mir.shows i r.0 r.1 in
       let a : Stance = g.arms i in
-      let k : T (may-step a) = subst (λ p. T (not (same-phase (phase-of p) P.I) && not (same-phase (phase-of p) P.F))) h.stands (step-none (phase-at s i) (for-arm-none (is-arm s i) _ e)) in
-      let base = step-mirror s g mir i r.0 r.1 a (inv.own i) k h in
-      let m₁ : Mirror (stepped-at s i (position a) (arm_at s i).side) (moved g step i) = subst (λ z. Mirror (stepped-at s i (position a) z) (moved g step i)) (sym h.sided) base in
-      let m₂ : Mirror (stepped-at s i (arm_at s i).position (arm_at s i).side) (moved g step i) = subst (λ z. Mirror (stepped-at s i z (arm_at s i).side) (moved g step i)) (sym h.stands) m₁ in
+      let k : T (may_step a) = subst (λ p. T (not (same_phase (phase_of p) P.I) && not (same_phase (phase_of p) P.F))) h.stands (step_none (phase_at s i) (for_arm_none (is_arm s i) _ e)) in
+      let base = step_mirror s g mir i r.0 r.1 a (inv.own i) k h in
+      let m₁ : Mirror (stepped_at s i (position a) (arm_at s i).side) (moved g step i) = subst (λ z. Mirror (stepped_at s i (position a) z) (moved g step i)) (sym h.sided) base in
+      let m₂ : Mirror (stepped_at s i (arm_at s i).position (arm_at s i).side) (moved g step i) = subst (λ z. Mirror (stepped_at s i z (arm_at s i).side) (moved g step i)) (sym h.stands) m₁ in
       goes step i r.0 (let z = mir.size in let y = r.1 in omega arith) k
-      (tallied-mirror s _ (i - 1) (phase-at s i) (phase-of (arm-after s i).position) _ (moved g step i) m₂) (λ b. refl) (λ b. refl)
+      (tallied_mirror s _ (i - 1) (phase_at s i) (phase_of (arm_after s i).position) _ (moved g step i) m₂) (λ b. refl) (λ b. refl)
 
   pub came : (c : Call) → Came g (after s c) (λ b. moves b s c) (λ b. steps b s c)
-  came (Begin i) = by-refusal (Begin i) (λ e.
-      let r = known-arm s i (begin-refusal (phase-at s i) (arm_at s i).visits) e in
+  came (Begin i) = by_refusal (Begin i) (λ e.
+      let r = known_arm s i (begin_refusal (phase_at s i) (arm_at s i).visits) e in
       let h = mir.shows i r.0 r.1 in
-      let k : T (at P.I (g.arms i)) = subst (λ p. T (same-phase (phase-of p) P.I)) h.stands (begin-none (phase-at s i) _ (for-arm-none (is-arm s i) _ e)).0 in
-      goes begin i r.0 (let z = mir.size in let y = r.1 in omega arith) k (begin-mirror s g mir i r.0 r.1 _ (g.arms i) k h) (λ b. refl) (λ b. refl))
-  came (Step i) = by-refusal (Step i) (step-came i)
-  came (Admit i) = by-refusal (Admit i) (λ e.
-      let r = known-arm s i (admit-refusal (phase-at s i) (arm_at s i).out) e in
+      let k : T (at P.I (g.arms i)) = subst (λ p. T (same_phase (phase_of p) P.I)) h.stands (begin_none (phase_at s i) _ (for_arm_none (is_arm s i) _ e)).0 in
+      goes begin i r.0 (let z = mir.size in let y = r.1 in omega arith) k (begin_mirror s g mir i r.0 r.1 _ (g.arms i) k h) (λ b. refl) (λ b. refl))
+  came (Step i) = by_refusal (Step i) (step_came i)
+  came (Admit i) = by_refusal (Admit i) (λ e.
+      let r = known_arm s i (admit_refusal (phase_at s i) (arm_at s i).out) e in
       let h = mir.shows i r.0 r.1 in
-      let k₀ = admit-none (phase-at s i) (arm_at s i).out (for-arm-none (is-arm s i) _ e) in
-      let k : T (at P.F (g.arms i) && not (out (g.arms i))) = subst (λ o. T (at P.F (g.arms i) && not o)) h.marked (subst (λ p. T (same-phase (phase-of p) P.F && not (arm_at s i).out)) h.stands k₀) in
+      let k₀ = admit_none (phase_at s i) (arm_at s i).out (for_arm_none (is_arm s i) _ e) in
+      let k : T (at P.F (g.arms i) && not (out (g.arms i))) = subst (λ o. T (at P.F (g.arms i) && not o)) h.marked (subst (λ p. T (same_phase (phase_of p) P.F && not (arm_at s i).out)) h.stands k₀) in
       goes admit i r.0 (let z = mir.size in let y = r.1 in omega arith) k
-      (admit-mirror s g mir i r.0 r.1 (g.arms i) (and_T (at P.F (g.arms i)) (not (out (g.arms i))) k).0 h) (λ b. refl) (λ b. refl))
-  came (Leave z i) = by-refusal (Leave z i) (λ e.
-      let x = and_T (is-arm s i) (arm_at s i).out (and_T (eqb z s.number) _ (leave_none (knows s z i) e)).1 in
+      (admit_mirror s g mir i r.0 r.1 (g.arms i) (and_T (at P.F (g.arms i)) (not (out (g.arms i))) k).0 h) (λ b. refl) (λ b. refl))
+  came (Leave z i) = by_refusal (Leave z i) (λ e.
+      let x = and_T (is_arm s i) (arm_at s i).out (and_T (eqb z s.number) _ (leave_none (knows s z i) e)).1 in
       let r = arm_in s i x.0 in
       let h = mir.shows i r.0 r.1 in
       let k : T (out (g.arms i)) = subst T h.marked x.1 in
-      goes leave i r.0 (let z = mir.size in let y = r.1 in omega arith) k (leave-mirror s g mir i r.0 r.1 (g.arms i) k h) (λ b. refl) (λ b. refl))
-  came (Confirm z i) = by-refusal (Confirm z i) (λ e. stays mir (λ b. refl) (λ b. refl))
-  came (Look i) = by-refusal (Look i) (λ e. stays mir (λ b. refl) (λ b. refl))
-  came (Tally i k) = by-refusal (Tally i k) (λ e. stays mir (λ b. refl) (λ b. refl))
-  came (Way i) = by-refusal (Way i) (λ e. stays mir (λ b. refl) (λ b. refl))
+      goes leave i r.0 (let z = mir.size in let y = r.1 in omega arith) k (leave_mirror s g mir i r.0 r.1 (g.arms i) k h) (λ b. refl) (λ b. refl))
+  came (Confirm z i) = by_refusal (Confirm z i) (λ e. stays mir (λ b. refl) (λ b. refl))
+  came (Look i) = by_refusal (Look i) (λ e. stays mir (λ b. refl) (λ b. refl))
+  came (Tally i k) = by_refusal (Tally i k) (λ e. stays mir (λ b. refl) (λ b. refl))
+  came (Way i) = by_refusal (Way i) (λ e. stays mir (λ b. refl) (λ b. refl))
 
 -- an arm's phase, in the state and in the machine
-pub phase-shown : (s : State) (g : Machine) → Mirror s g → (p : Phase) (i : ℕ) → 1 ≤ i → i ≤ g.n → is-in p s i ≡ at p (g.arms i)
-phase-shown s g mir p i lo hi = ap (λ z. same-phase (phase-of z) p) (mir.shows i lo (let z = mir.size in omega arith)).stands
+pub phase_shown : (s : State) (g : Machine) → Mirror s g → (p : Phase) (i : ℕ) → 1 ≤ i → i ≤ g.n → is_in p s i ≡ at p (g.arms i)
+phase_shown s g mir p i lo hi = ap (λ z. same_phase (phase_of z) p) (mir.shows i lo (let z = mir.size in omega arith)).stands
 
 -- a move by which w goes inside is a call by which it does
-pub entry-goes : (w : ℕ) (sd : Bool) (s : State) (g : Machine) → 1 ≤ w → w ≤ g.n → Mirror s g → Waiting sd (g.arms w) → (c : Call) (m : Move) (i : ℕ)
-    → Mirror (after s c) (moved g m i) → ((b : ℕ) → steps b s c ≡ (is-step m && eqb i b)) → Entry m i w (moved g m i) → T (goes-inside w s c)
-entry-goes w sd s g lo hi mir wait c m i mir' st (q, k, ins) =
-    T_and (steps w s c) (is-in P.W s w && is-in P.F (after s c) w)
-    (subst T (sym (st w)) (T_and (is-step m) (eqb i w) k (subst (λ z. T (eqb i z)) q (eqb_refl i))))
-    (T_and (is-in P.W s w) (is-in P.F (after s c) w)
-    (subst T (sym (phase-shown s g mir P.W w lo hi)) (subst (λ y. T (at P.W y)) (sym wait.2) tt))
-    (subst T (sym (phase-shown (after s c) (moved g m i) mir' P.F w lo hi)) ins))
+pub entry_goes : (w : ℕ) (sd : Bool) (s : State) (g : Machine) → 1 ≤ w → w ≤ g.n → Mirror s g → Waiting sd (g.arms w) → (c : Call) (m : Move) (i : ℕ)
+    → Mirror (after s c) (moved g m i) → ((b : ℕ) → steps b s c ≡ (is_step m && eqb i b)) → Entry m i w (moved g m i) → T (goes_inside w s c)
+entry_goes w sd s g lo hi mir wait c m i mir' st (q, k, ins) =
+    T_and (steps w s c) (is_in P.W s w && is_in P.F (after s c) w)
+    (subst T (sym (st w)) (T_and (is_step m) (eqb i w) k (subst (λ z. T (eqb i z)) q (eqb_refl i))))
+    (T_and (is_in P.W s w) (is_in P.F (after s c) w)
+    (subst T (sym (phase_shown s g mir P.W w lo hi)) (subst (λ y. T (at P.W y)) (sym wait.2) tt))
+    (subst T (sym (phase_shown (after s c) (moved g m i) mir' P.F w lo hi)) ins))
 
 -- a state that mirrors a machine of n arms with its invariant
 pub record Sound (s : State) (n : ℕ) : Type 0 where
   pub machine : Machine
   pub mirror : Mirror s machine
   pub keeps : Inv machine
-  pub arms-are : machine.n ≡ n
+  pub arms_are : machine.n ≡ n
 
-after-sound : (s : State) (n : ℕ) → Sound s n → (c : Call) → Sound (after s c) n
-after-sound s n h c = go (came s h.machine h.mirror h.keeps c)
+after_sound : (s : State) (n : ℕ) → Sound s n → (c : Call) → Sound (after s c) n
+after_sound s n h c = go (came s h.machine h.mirror h.keeps c)
   where
     go : Came h.machine (after s c) (λ b. moves b s c) (λ b. steps b s c) → Sound (after s c) n
-    go (stays mir _ _) = record { machine = h.machine; mirror = mir; keeps = h.keeps; arms-are = h.arms-are }
-    go (goes m i lo hi k mir _ _) = record { machine = moved h.machine m i; mirror = mir; keeps = inv-moved h.machine h.keeps m i lo hi; arms-are = h.arms-are }
+    go (stays mir _ _) = record { machine = h.machine; mirror = mir; keeps = h.keeps; arms_are = h.arms_are }
+    go (goes m i lo hi k mir _ _) = record { machine = moved h.machine m i; mirror = mir; keeps = inv_moved h.machine h.keeps m i lo hi; arms_are = h.arms_are }
 
 pub run_sound : (s : State) (n : ℕ) → Sound s n → (cs : List Call) → Sound (run s cs) n
 run_sound s n h [] = h
-run_sound s n h (c ∷ cs) = run_sound (after s c) n (after-sound s n h c) cs
+run_sound s n h (c ∷ cs) = run_sound (after s c) n (after_sound s n h c) cs
 
 -- no call alters how many arms there are
-unless-n : (r : Option Refusal) (x y : State) → x.n ≡ y.n → (unless r x y).n ≡ y.n
-unless-n None x y e = e
-unless-n (Some r) x y e = refl
+unless_n : (r : Option Refusal) (x y : State) → x.n ≡ y.n → (unless r x y).n ≡ y.n
+unless_n None x y e = e
+unless_n (Some r) x y e = refl
 
-after-n : (s : State) (c : Call) → (after s c).n ≡ s.n
-after-n s (Begin i) = unless-n (refusal-of s (Begin i)) (done s (Begin i)) s refl
-after-n s (Step i) = unless-n (refusal-of s (Step i)) (done s (Step i)) s refl
-after-n s (Admit i) = unless-n (refusal-of s (Admit i)) (done s (Admit i)) s refl
-after-n s (Confirm z i) = refl
-after-n s (Leave z i) = unless-n (refusal-of s (Leave z i)) (done s (Leave z i)) s refl
-after-n s (Look i) = unless-n (refusal-of s (Look i)) s s refl
-after-n s (Tally i k) = unless-n (refusal-of s (Tally i k)) s s refl
-after-n s (Way i) = unless-n (refusal-of s (Way i)) s s refl
+after_n : (s : State) (c : Call) → (after s c).n ≡ s.n
+after_n s (Begin i) = unless_n (refusal_of s (Begin i)) (done s (Begin i)) s refl
+after_n s (Step i) = unless_n (refusal_of s (Step i)) (done s (Step i)) s refl
+after_n s (Admit i) = unless_n (refusal_of s (Admit i)) (done s (Admit i)) s refl
+after_n s (Confirm z i) = refl
+after_n s (Leave z i) = unless_n (refusal_of s (Leave z i)) (done s (Leave z i)) s refl
+after_n s (Look i) = unless_n (refusal_of s (Look i)) s s refl
+after_n s (Tally i k) = unless_n (refusal_of s (Tally i k)) s s refl
+after_n s (Way i) = unless_n (refusal_of s (Way i)) s s refl
 
-pub run-n : (cs : List Call) (s : State) → (run s cs).n ≡ s.n
-run-n [] s = refl
-run-n (c ∷ cs) s = run-n cs (after s c) ∙ after-n s c
+pub run_n : (cs : List Call) (s : State) → (run s cs).n ≡ s.n
+run_n [] s = refl
+run_n (c ∷ cs) s = run_n cs (after s c) ∙ after_n s c
 
 -- calls one after another
-run-append : (xs ys : List Call) (s : State) → run s (xs ++ ys) ≡ run (run s xs) ys
-run-append [] ys s = refl
-run-append (c ∷ xs) ys s = run-append xs ys (after s c)
+run_append : (xs ys : List Call) (s : State) → run s (xs ++ ys) ≡ run (run s xs) ys
+run_append [] ys s = refl
+run_append (c ∷ xs) ys s = run_append xs ys (after s c)
 
 pub run_more : (s : State) (cs : List Call) (i : ℕ) (d : Call) → i < length cs → run s (take (i + 1) cs) ≡ after (run s (take i cs)) (get_or cs i d)
-run_more s cs i d l = ap (run s) (take_more cs i d l) ∙ run-append (take i cs) (get_or cs i d ∷ []) s
+run_more s cs i d l = ap (run s) (take_more cs i d l) ∙ run_append (take i cs) (get_or cs i d ∷ []) s
 
 -- the machine that a gate just made mirrors
 abbrev pub start : ℕ → Machine
 start n = record { n = n; group = false; arms = λ k. idle false }
 
-pub start-inv : (n : ℕ) → Inv (start n)
-start-inv n = record { home = λ k. tt; awake = λ k h. absurd h; range = λ k t h. absurd h; own = λ k. tt }
+pub start_inv : (n : ℕ) → Inv (start n)
+start_inv n = record { home = λ k. tt; awake = λ k h. absurd h; range = λ k t h. absurd h; own = λ k. tt }
 
 -- a gate with arms has a bank that holds a bit, and 0 in all their registers
-some-high : (high len wanted : ℕ) → 1 ≤ arms-for high len wanted → 1 ≤ high
-some-high zero len wanted h = absurd (omega arith)
-some-high (suc k) len wanted h = omega arith
+some_high : (high len wanted : ℕ) → 1 ≤ arms_for high len wanted → 1 ≤ high
+some_high zero len wanted h = absurd (omega arith)
+some_high (suc k) len wanted h = omega arith
 
-module _ (high number wanted : ℕ) (regs : List ℕ) (some : 1 ≤ arms-for high (length regs) wanted) where
-  abbrev made-n : ℕ
-  made-n = arms-for high (length regs) wanted
+module _ (high number wanted : ℕ) (regs : List ℕ) (some : 1 ≤ arms_for high (length regs) wanted) where
+  abbrev made_n : ℕ
+  made_n = arms_for high (length regs) wanted
 
-  made-cleared : made-regs made-n regs ≡ cleared (room made-n) regs
-  made-cleared = cond-false (eqb made-n 0) regs (cleared (room made-n) regs) (ne_eqb made-n 0 (omega arith))
+  made_cleared : made_regs made_n regs ≡ cleared (room made_n) regs
+  made_cleared = cond-false (eqb made_n 0) regs (cleared (room made_n) regs) (ne_eqb made_n 0 (omega arith))
 
-  cleared_at : (q : ℕ) → q < room made-n → get_or (made-regs made-n regs) q 0 ≡ 0
+  cleared_at : (q : ℕ) → q < room made_n → get_or (made_regs made_n regs) q 0 ≡ 0
   cleared_at q l =
-      ap (λ rs. get_or rs q 0) made-cleared
-      ∙ (get_or_append_left (replicate (room made-n) 0) (drop (room made-n) regs) 0 q (let x = length-replicate {A = ℕ} (room made-n) 0 in omega arith)
-      ∙ get_or-replicate (room made-n) q 0 0 l)
+      ap (λ rs. get_or rs q 0) made_cleared
+      ∙ (get_or_append_left (replicate (room made_n) 0) (drop (room made_n) regs) 0 q (let x = length-replicate {A = ℕ} (room made_n) 0 in omega arith)
+      ∙ get_or-replicate (room made_n) q 0 0 l)
 
-  pub made-mirror : Mirror (made high number wanted regs) (start made-n)
-  made-mirror =
-      let few = arms-few high (length regs) wanted in
-      let fit = arms-fit high (length regs) wanted some in
+  pub made_mirror : Mirror (made high number wanted regs) (start made_n)
+  made_mirror =
+      let few = arms_few high (length regs) wanted in
+      let fit = arms_fit high (length regs) wanted some in
       record {
         size = refl;
-        bits = some-high high (length regs) wanted some;
-        room = let x = ap length made-cleared ∙ length-cleared (room made-n) regs fit in omega arith;
+        bits = some_high high (length regs) wanted some;
+        room = let x = ap length made_cleared ∙ length_cleared (room made_n) regs fit in omega arith;
         table = few;
-        group-is = cleared_at group (omega arith);
+        group_is = cleared_at group (omega arith);
         shows = λ i lo hi.
-            let e : arm_at (made high number wanted regs) i ≡ fresh = get_or-replicate arm-limit (i - 1) fresh no_arm (omega arith) in
+            let e : arm_at (made high number wanted regs) i ≡ fresh = get_or-replicate arm_limit (i - 1) fresh no_arm (omega arith) in
             record {
               stands = ap (λ a. a.position) e;
               sided = ap (λ a. a.side) e;
               marked = ap (λ a. a.out) e;
-              chooses = cleared_at (choosing-of i) (omega arith);
-              grouped = cleared_at (mygroup-of i) (omega arith);
-              flagged = cleared_at (flag-of i) (omega arith);
+              chooses = cleared_at (choosing_of i) (omega arith);
+              grouped = cleared_at (mygroup_of i) (omega arith);
+              flagged = cleared_at (flag_of i) (omega arith);
             };
       }
 
-  abbrev pub made-sound : Sound (made high number wanted regs) made-n
-  made-sound = record { machine = start made-n; mirror = made-mirror; keeps = start-inv made-n; arms-are = refl }
+  abbrev pub made_sound : Sound (made high number wanted regs) made_n
+  made_sound = record { machine = start made_n; mirror = made_mirror; keeps = start_inv made_n; arms_are = refl }

@@ -2,21 +2,21 @@
 use Rattle.std.proofs.Common.{◌≡◌, ℕ, ◌+◌, ◌≤◌, Bool, true, false, cond, ◌&&◌, T, eqb, List, [], ◌∷◌, sym, refl, ap, ◌∙◌, subst, ⊎_elim, arith}
 use lib.Dec.{eqb_refl}
 use Rattle.std.proofs.lemmas.Bool.{cases_eq}
-use Rattle.door.specs.Tallies.{same-phase}
+use Rattle.door.specs.Tallies.{same_phase}
 use Rattle.door.specs.States.{State}
 use Rattle.door.specs.Calls.{after, run}
-use Rattle.door.specs.History.{is-in, steps, moves, ends-doorway, goes-inside, count-on, latest-idle}
+use Rattle.door.specs.History.{is_in, steps, moves, ends_doorway, goes_inside, count_on, latest_idle}
 use Rattle.door.specs.declared.call.Call.{Call}
 use Rattle.door.specs.declared.position.Phase.{Phase}
 use Rattle.door.specs.declared.position.Phase.TheVariants as P
-use Rattle.door.proofs.Bools.{same, and_T, T_and, cond-on}
-use Rattle.door.proofs.machine.Machine.{Stance, at, Move, step, is-step, allowed, changed-other, Machine, moved}
-use Rattle.door.proofs.machine.Invariant.{inv-moved}
-use Rattle.door.proofs.rounds.Waiting.{only-steps, phase-waits, doorway-steps}
+use Rattle.door.proofs.Bools.{same, and_T, T_and, cond_on}
+use Rattle.door.proofs.machine.Machine.{Stance, at, Move, step, is_step, allowed, changed_other, Machine, moved}
+use Rattle.door.proofs.machine.Invariant.{inv_moved}
+use Rattle.door.proofs.rounds.Waiting.{only_steps, phase_waits, doorway_steps}
 use Rattle.door.proofs.machine.Mirror.{Mirror}
-use Rattle.door.proofs.machine.Reached.{Came, stays, goes, came, Sound, phase-shown}
-use Rattle.door.proofs.passed.Meaning.{at as Stage-at, Inv as Rules-hold, inv-change, ends-doorway as ends, goes-inside as enters, left, Counted, count-change}
-use Rattle.door.proofs.passed.Rules.{stage, stage-phase, meaning, move-change}
+use Rattle.door.proofs.machine.Reached.{Came, stays, goes, came, Sound, phase_shown}
+use Rattle.door.proofs.passed.Meaning.{at as StageAt, Inv as RulesHold, inv_change, ends_doorway as ends, goes_inside as enters, left, Counted, count_change}
+use Rattle.door.proofs.passed.Rules.{stage, stage_phase, meaning, move_change}
 
 absorb : (x y : Bool) → (T y → T x) → (x && y) ≡ y
 absorb true y h = refl
@@ -24,34 +24,34 @@ absorb false true h = absurd (h tt)
 absorb false false h = refl
 
 -- an arm's phase in the machine's meaning
-phase-meant : (p : Phase) (a : Stance) → Stage-at p (stage a) ≡ at p a
-phase-meant p a = ap (λ z. same-phase z p) (stage-phase a)
+phase_meant : (p : Phase) (a : Stance) → StageAt p (stage a) ≡ at p a
+phase_meant p a = ap (λ z. same_phase z p) (stage_phase a)
 
-waiting-steps : (m : Move) (a : Stance) → T (at P.W a) → T (allowed m a) → m ≡ step
-waiting-steps m a h k = let v = phase-waits a h in only-steps m v.0 v.1.0 v.1.1 (subst (λ y. T (allowed m y)) v.1.2 k)
+waiting_steps : (m : Move) (a : Stance) → T (at P.W a) → T (allowed m a) → m ≡ step
+waiting_steps m a h k = let v = phase_waits a h in only_steps m v.0 v.1.0 v.1.1 (subst (λ y. T (allowed m y)) v.1.2 k)
 
 -- a change from a phase in which an arm may only step is its own step
 changes : (p q : Phase) → ((a : Stance) → T (at p a && at q a) → ⊥) → ((m : Move) (a : Stance) → T (at p a) → T (allowed m a) → m ≡ step)
-    → (g : Machine) (m : Move) (i : ℕ) → T (allowed m (g.arms i)) → (v : ℕ) → T (at p (g.arms v) && at q ((moved g m i).arms v)) → T (is-step m && eqb i v)
+    → (g : Machine) (m : Move) (i : ℕ) → T (allowed m (g.arms i)) → (v : ℕ) → T (at p (g.arms v) && at q ((moved g m i).arms v)) → T (is_step m && eqb i v)
 changes p q apart only g m i k v h = ⊎_elim
     (λ e.
     let k' : T (allowed m (g.arms v)) = subst (λ y. T (allowed m (g.arms y))) e k in
     let r = only m (g.arms v) (and_T (at p (g.arms v)) (at q ((moved g m i).arms v)) h).0 k' in
-    T_and (is-step m) (eqb i v) (subst (λ y. T (is-step y)) (sym r) tt) (subst (λ y. T (eqb i y)) e (eqb_refl i)))
-    (λ ne. absurd (apart (g.arms v) (subst (λ y. T (at p (g.arms v) && at q y)) (changed-other g.arms i _ v (λ z. ne (sym z))) h)))
+    T_and (is_step m) (eqb i v) (subst (λ y. T (is_step y)) (sym r) tt) (subst (λ y. T (eqb i y)) e (eqb_refl i)))
+    (λ ne. absurd (apart (g.arms v) (subst (λ y. T (at p (g.arms v) && at q y)) (changed_other g.arms i _ v (λ z. ne (sym z))) h)))
     (cases_eq i v)
 
-D-or-W : (a : Stance) → T (at P.D a && at P.W a) → ⊥
-D-or-W a h = grind arith
+D_or_W : (a : Stance) → T (at P.D a && at P.W a) → ⊥
+D_or_W a h = grind arith
 
-W-or-F : (a : Stance) → T (at P.W a && at P.F a) → ⊥
-W-or-F a h = grind arith
+W_or_F : (a : Stance) → T (at P.W a && at P.F a) → ⊥
+W_or_F a h = grind arith
 
 module _ (w b n : ℕ) (wlo : 1 ≤ w) (whi : w ≤ n) (blo : 1 ≤ b) (bhi : b ≤ n) where
   -- k entries of b since w ended its doorway, o tells whether b was idle then
   pub record Past (s : State) (k : ℕ) (o : Bool) : Type 0 where
     pub sound : Sound s n
-    pub rules : Rules-hold (meaning sound.machine)
+    pub rules : RulesHold (meaning sound.machine)
     pub counted : Counted w b (meaning sound.machine) k o
 
   module _ (s : State) (k : ℕ) (o : Bool) (past : Past s k o) (c : Call) where
@@ -59,76 +59,76 @@ module _ (w b n : ℕ) (wlo : 1 ≤ w) (whi : w ≤ n) (blo : 1 ≤ b) (bhi : b 
     g = past.sound.machine
 
     -- the phases of arm v before and after
-    pair-shown : (g' : Machine) → g'.n ≡ n → Mirror (after s c) g' → (p q : Phase) (v : ℕ) → 1 ≤ v → v ≤ n
-        → (is-in p s v && is-in q (after s c) v) ≡ (at p (g.arms v) && at q (g'.arms v))
-    pair-shown g' e mir' p q v lo hi =
-        ap (λ z. z && is-in q (after s c) v) (phase-shown s g past.sound.mirror p v lo (let z = past.sound.arms-are in omega arith))
-        ∙ ap (λ z. at p (g.arms v) && z) (phase-shown (after s c) g' mir' q v lo (omega arith))
+    pair_shown : (g' : Machine) → g'.n ≡ n → Mirror (after s c) g' → (p q : Phase) (v : ℕ) → 1 ≤ v → v ≤ n
+        → (is_in p s v && is_in q (after s c) v) ≡ (at p (g.arms v) && at q (g'.arms v))
+    pair_shown g' e mir' p q v lo hi =
+        ap (λ z. z && is_in q (after s c) v) (phase_shown s g past.sound.mirror p v lo (let z = past.sound.arms_are in omega arith))
+        ∙ ap (λ z. at p (g.arms v) && z) (phase_shown (after s c) g' mir' q v lo (omega arith))
 
-    pair-meant : (g' : Machine) (p q : Phase) (v : ℕ)
-        → (at p (g.arms v) && at q (g'.arms v)) ≡ (Stage-at p (stage (g.arms v)) && Stage-at q (stage (g'.arms v)))
-    pair-meant g' p q v = sym (ap (λ z. z && Stage-at q (stage (g'.arms v))) (phase-meant p (g.arms v)) ∙ ap (λ z. at p (g.arms v) && z) (phase-meant q (g'.arms v)))
+    pair_meant : (g' : Machine) (p q : Phase) (v : ℕ)
+        → (at p (g.arms v) && at q (g'.arms v)) ≡ (StageAt p (stage (g.arms v)) && StageAt q (stage (g'.arms v)))
+    pair_meant g' p q v = sym (ap (λ z. z && StageAt q (stage (g'.arms v))) (phase_meant p (g.arms v)) ∙ ap (λ z. at p (g.arms v) && z) (phase_meant q (g'.arms v)))
 
     Next : Type 0
-    Next = Past (after s c) (cond (ends-doorway w s c) 0 (cond (goes-inside b s c) (k + 1) k)) (cond (ends-doorway w s c) (is-in P.I s b) o)
+    Next = Past (after s c) (cond (ends_doorway w s c) 0 (cond (goes_inside b s c) (k + 1) k)) (cond (ends_doorway w s c) (is_in P.I s b) o)
 
     went : Came g (after s c) (λ v. moves v s c) (λ v. steps v s c) → Next
     unfolding Next
     went (stays mir' _ st) =
-        let E : ends-doorway w s c ≡ false = ap (λ z. z && (is-in P.D s w && is-in P.W (after s c) w)) (st w) in
-        let N : goes-inside b s c ≡ false = ap (λ z. z && (is-in P.W s b && is-in P.F (after s c) b)) (st b) in
+        let E : ends_doorway w s c ≡ false = ap (λ z. z && (is_in P.D s w && is_in P.W (after s c) w)) (st w) in
+        let N : goes_inside b s c ≡ false = ap (λ z. z && (is_in P.W s b && is_in P.F (after s c) b)) (st b) in
         record {
-          sound = record { machine = g; mirror = mir'; keeps = past.sound.keeps; arms-are = past.sound.arms-are };
+          sound = record { machine = g; mirror = mir'; keeps = past.sound.keeps; arms_are = past.sound.arms_are };
           rules = past.rules;
-          counted = subst (λ x. Counted w b (meaning g) (cond x 0 (cond (goes-inside b s c) (k + 1) k)) (cond x (is-in P.I s b) o)) (sym E)
+          counted = subst (λ x. Counted w b (meaning g) (cond x 0 (cond (goes_inside b s c) (k + 1) k)) (cond x (is_in P.I s b) o)) (sym E)
               (subst (λ x. Counted w b (meaning g) (cond x (k + 1) k) o) (sym N) past.counted);
         }
     went (goes m i lo hi al mir' _ st) =
         let g' : Machine = moved g m i in
-        let change = move-change g past.sound.keeps m i in
-        let e = past.sound.arms-are in
-        let E : ends-doorway w s c ≡ ends w (meaning g) (meaning g') =
-        ap (λ z. z && (is-in P.D s w && is-in P.W (after s c) w)) (st w)
-        ∙ (ap (λ z. (is-step m && eqb i w) && z) (pair-shown g' e mir' P.D P.W w wlo whi)
-        ∙ (absorb _ _ (changes P.D P.W D-or-W doorway-steps g m i al w) ∙ pair-meant g' P.D P.W w)) in
-        let N : goes-inside b s c ≡ enters b (meaning g) (meaning g') =
-        ap (λ z. z && (is-in P.W s b && is-in P.F (after s c) b)) (st b)
-        ∙ (ap (λ z. (is-step m && eqb i b) && z) (pair-shown g' e mir' P.W P.F b blo bhi)
-        ∙ (absorb _ _ (changes P.W P.F W-or-F waiting-steps g m i al b) ∙ pair-meant g' P.W P.F b)) in
-        let I : is-in P.I s b ≡ Stage-at P.I (stage (g.arms b)) = phase-shown s g past.sound.mirror P.I b blo (omega arith) ∙ sym (phase-meant P.I (g.arms b)) in
-        let new = count-change w b (meaning g) (meaning g') i change past.rules k o past.counted in
+        let change = move_change g past.sound.keeps m i in
+        let e = past.sound.arms_are in
+        let E : ends_doorway w s c ≡ ends w (meaning g) (meaning g') =
+        ap (λ z. z && (is_in P.D s w && is_in P.W (after s c) w)) (st w)
+        ∙ (ap (λ z. (is_step m && eqb i w) && z) (pair_shown g' e mir' P.D P.W w wlo whi)
+        ∙ (absorb _ _ (changes P.D P.W D_or_W doorway_steps g m i al w) ∙ pair_meant g' P.D P.W w)) in
+        let N : goes_inside b s c ≡ enters b (meaning g) (meaning g') =
+        ap (λ z. z && (is_in P.W s b && is_in P.F (after s c) b)) (st b)
+        ∙ (ap (λ z. (is_step m && eqb i b) && z) (pair_shown g' e mir' P.W P.F b blo bhi)
+        ∙ (absorb _ _ (changes P.W P.F W_or_F waiting_steps g m i al b) ∙ pair_meant g' P.W P.F b)) in
+        let I : is_in P.I s b ≡ StageAt P.I (stage (g.arms b)) = phase_shown s g past.sound.mirror P.I b blo (omega arith) ∙ sym (phase_meant P.I (g.arms b)) in
+        let new = count_change w b (meaning g) (meaning g') i change past.rules k o past.counted in
         record {
-          sound = record { machine = g'; mirror = mir'; keeps = inv-moved g past.sound.keeps m i lo hi; arms-are = e };
-          rules = inv-change (meaning g) (meaning g') i change past.rules;
-          counted = subst (λ x. Counted w b (meaning g') (cond x 0 (cond (goes-inside b s c) (k + 1) k)) (cond x (is-in P.I s b) o)) (sym E)
-              (subst (λ x. Counted w b (meaning g') (cond (ends w (meaning g) (meaning g')) 0 (cond x (k + 1) k)) (cond (ends w (meaning g) (meaning g')) (is-in P.I s b) o)) (sym N)
+          sound = record { machine = g'; mirror = mir'; keeps = inv_moved g past.sound.keeps m i lo hi; arms_are = e };
+          rules = inv_change (meaning g) (meaning g') i change past.rules;
+          counted = subst (λ x. Counted w b (meaning g') (cond x 0 (cond (goes_inside b s c) (k + 1) k)) (cond x (is_in P.I s b) o)) (sym E)
+              (subst (λ x. Counted w b (meaning g') (cond (ends w (meaning g) (meaning g')) 0 (cond x (k + 1) k)) (cond (ends w (meaning g) (meaning g')) (is_in P.I s b) o)) (sym N)
               (subst (λ x. Counted w b (meaning g') (cond (ends w (meaning g) (meaning g')) 0 (cond (enters b (meaning g) (meaning g')) (k + 1) k)) (cond (ends w (meaning g) (meaning g')) x o)) (sym I) new));
         }
 
-  pub past-call : (s : State) (k : ℕ) (o : Bool) → Past s k o → (c : Call)
-      → Past (after s c) (cond (ends-doorway w s c) 0 (cond (goes-inside b s c) (k + 1) k)) (cond (ends-doorway w s c) (is-in P.I s b) o)
+  pub past_call : (s : State) (k : ℕ) (o : Bool) → Past s k o → (c : Call)
+      → Past (after s c) (cond (ends_doorway w s c) 0 (cond (goes_inside b s c) (k + 1) k)) (cond (ends_doorway w s c) (is_in P.I s b) o)
   unfolding Next
-  past-call s k o past c = went s k o past c (came s past.sound.machine past.sound.mirror past.sound.keeps c)
+  past_call s k o past c = went s k o past c (came s past.sound.machine past.sound.mirror past.sound.keeps c)
 
-  pub past-run : (cs : List Call) (s : State) (k : ℕ) (o : Bool) → Past s k o → Past (run s cs) (count-on w b s cs k) (latest-idle w b s cs o)
-  past-run [] s k o h = h
-  past-run (c ∷ cs) s k o h = past-run cs (after s c) _ _ (past-call s k o h c)
+  pub past_run : (cs : List Call) (s : State) (k : ℕ) (o : Bool) → Past s k o → Past (run s cs) (count_on w b s cs k) (latest_idle w b s cs o)
+  past_run [] s k o h = h
+  past_run (c ∷ cs) s k o h = past_run cs (after s c) _ _ (past_call s k o h c)
 
   -- at most two, and at most one if b was idle
-  pub past_bound : (s : State) (k : ℕ) (o : Bool) → Past s k o → T (is-in P.W s w) → (k ≤ 2) × (T o → k ≤ 1)
+  pub past_bound : (s : State) (k : ℕ) (o : Bool) → Past s k o → T (is_in P.W s w) → (k ≤ 2) × (T o → k ≤ 1)
   past_bound s k o past wait =
       let g₀ : Machine = past.sound.machine in
-      let e = past.sound.arms-are in
-      let v = phase-waits (g₀.arms w) (subst T (phase-shown s g₀ past.sound.mirror P.W w wlo (omega arith)) wait) in
+      let e = past.sound.arms_are in
+      let v = phase_waits (g₀.arms w) (subst T (phase_shown s g₀ past.sound.mirror P.W w wlo (omega arith)) wait) in
       let L = past.counted v.0 (ap stage v.1.2) in
       ((let y = L.0 in omega arith), λ t. let y = L.1 t in omega arith)
 
 -- no entry of the arm itself
-pub none-itself : (w n : ℕ) (lo : 1 ≤ w) (hi : w ≤ n) (s : State) (k : ℕ) (o : Bool) → Past w w n lo hi lo hi s k o → T (is-in P.W s w) → k ≡ 0
-none-itself w n lo hi s k o past wait =
+pub none_itself : (w n : ℕ) (lo : 1 ≤ w) (hi : w ≤ n) (s : State) (k : ℕ) (o : Bool) → Past w w n lo hi lo hi s k o → T (is_in P.W s w) → k ≡ 0
+none_itself w n lo hi s k o past wait =
     let g : Machine = past.sound.machine in
-    let e = past.sound.arms-are in
-    let v = phase-waits (g.arms w) (subst T (phase-shown s g past.sound.mirror P.W w lo (omega arith)) wait) in
-    let all = cond-on (eqb w w) 2 (left (same g.group v.0) v.0 (stage (g.arms w))) (eqb_refl w) in
+    let e = past.sound.arms_are in
+    let v = phase_waits (g.arms w) (subst T (phase_shown s g past.sound.mirror P.W w lo (omega arith)) wait) in
+    let all = cond_on (eqb w w) 2 (left (same g.group v.0) v.0 (stage (g.arms w))) (eqb_refl w) in
     let L = (past.counted v.0 (ap stage v.1.2)).0 in
     omega arith

@@ -3,12 +3,12 @@ use Rattle.std.proofs.Common.{◌≡◌, ℕ, ◌+◌, ◌≤◌, Bool, true, fa
 use Rattle.std.proofs.lemmas.Bool.{cases_eq}
 use Rattle.door.specs.declared.position.Phase.TheVariants as P
 use Rattle.door.specs.declared.position.Place.{Place}
-use Rattle.door.proofs.Bools.{same, same-other, opposite, test, clash, none_of, and_T, T_and, by, ne_test, test-ne}
-use Rattle.door.proofs.machine.Machine.{Stance, idle, d1, d2, d3, d4, d5, waits, inside, x1, x2, at, has, choosing, outcome, step-arm, turn_step, Move, begin, step, admit, leave, act, turn, allowed, changed-other, Machine, moved_to, moved}
-use Rattle.door.proofs.machine.Invariant.{Own, Inv, seen-act, changed-seen}
-use Rattle.door.proofs.rounds.Waiting.{Waiting, Entry, only-steps, not-both, D-awake, has-awake, choosing-D, find, has-own, index_in, move-out}
-use Rattle.door.proofs.rounds.Potential.{Fit, budget-act, budget-act-critical, paid, turn-away, place-act, potential}
-use Rattle.door.proofs.rounds.Falls.{fit_of, potential-other, potential-own}
+use Rattle.door.proofs.Bools.{same, same_other, opposite, test, clash, none_of, and_T, T_and, by, ne_test, test_ne}
+use Rattle.door.proofs.machine.Machine.{Stance, idle, d1, d2, d3, d4, d5, waits, inside, x1, x2, at, has, choosing, outcome, step_arm, turn_step, Move, begin, step, admit, leave, act, turn, allowed, changed_other, Machine, moved_to, moved}
+use Rattle.door.proofs.machine.Invariant.{Own, Inv, seen_act, changed_seen}
+use Rattle.door.proofs.rounds.Waiting.{Waiting, Entry, only_steps, not_both, D_awake, has_awake, choosing_D, find, has_own, index_in, move_out}
+use Rattle.door.proofs.rounds.Potential.{Fit, budget_act, budget_act_critical, paid, turn_away, place_act, potential}
+use Rattle.door.proofs.rounds.Falls.{fit_of, potential_other, potential_own}
 
 abbrev Quiet : (ℕ → Stance) → Type 0
 Quiet arms = (k : ℕ) → T (not (choosing (arms k)))
@@ -19,7 +19,7 @@ pub data Critical (g : Machine) (w : ℕ) (s : Bool) (b : ℕ) : Type 0 where
   self : b ≡ w → Quiet g.arms → (T (same g.group s) → (k : ℕ) → T (has (not s) (g.arms k)) → ⊥) → Critical g w s b
 
 -- tables
-quiet_step : (n : ℕ) (β : Bool) (arms : ℕ → Stance) (a : Stance) → T (not (at P.D a)) → T (not (choosing (step-arm n β arms a)))
+quiet_step : (n : ℕ) (β : Bool) (arms : ℕ → Stance) (a : Stance) → T (not (at P.D a)) → T (not (choosing (step_arm n β arms a)))
 quiet_step n β arms (idle g) d = tt
 quiet_step n β arms (d1 g) d = absurd d
 quiet_step n β arms (d2 g) d = absurd d
@@ -31,168 +31,168 @@ quiet_step n β arms (inside s o) d = tt
 quiet_step n β arms (x1 s) d = tt
 quiet_step n β arms (x2 s) d = tt
 
-pub quiet-act : (m : Move) (n : ℕ) (β : Bool) (arms : ℕ → Stance) (a : Stance) → T (not (choosing a)) → T (not (paid m a)) → T (not (choosing (act m n β arms a)))
-quiet-act begin n β arms a c d = grind arith
-quiet-act step n β arms a c d = quiet_step n β arms a d
-quiet-act admit n β arms a c d = grind arith
-quiet-act leave n β arms a c d = grind arith
+pub quiet_act : (m : Move) (n : ℕ) (β : Bool) (arms : ℕ → Stance) (a : Stance) → T (not (choosing a)) → T (not (paid m a)) → T (not (choosing (act m n β arms a)))
+quiet_act begin n β arms a c d = grind arith
+quiet_act step n β arms a c d = quiet_step n β arms a d
+quiet_act admit n β arms a c d = grind arith
+quiet_act leave n β arms a c d = grind arith
 
-not-D : (m : Move) (a : Stance) (t : Bool) → T (has t a) → T (not (choosing a)) → T (not (paid m a))
-not-D begin a t h c = tt
-not-D step a t h c = grind arith
-not-D admit a t h c = tt
-not-D leave a t h c = tt
+not_D : (m : Move) (a : Stance) (t : Bool) → T (has t a) → T (not (choosing a)) → T (not (paid m a))
+not_D begin a t h c = tt
+not_D step a t h c = grind arith
+not_D admit a t h c = tt
+not_D leave a t h c = tt
 
-D-moves : (m : Move) (a : Stance) → T (at P.D a) → T (allowed m a) → T (paid m a)
-D-moves begin a h k = grind arith
-D-moves step a h k = h
-D-moves admit a h k = grind arith
-D-moves leave a h k = grind arith
+D_moves : (m : Move) (a : Stance) → T (at P.D a) → T (allowed m a) → T (paid m a)
+D_moves begin a h k = grind arith
+D_moves step a h k = h
+D_moves admit a h k = grind arith
+D_moves leave a h k = grind arith
 
-wait-unpaid : (m : Move) (s : Bool) (j : ℕ) (p : Place) → T (paid m (waits s j p)) → ⊥
-wait-unpaid begin s j p h = h
-wait-unpaid step s j p h = h
-wait-unpaid admit s j p h = h
-wait-unpaid leave s j p h = h
+wait_unpaid : (m : Move) (s : Bool) (j : ℕ) (p : Place) → T (paid m (waits s j p)) → ⊥
+wait_unpaid begin s j p h = h
+wait_unpaid step s j p h = h
+wait_unpaid admit s j p h = h
+wait_unpaid leave s j p h = h
 
-choosing-awake : (a : Stance) → T (choosing a) → T (not (at P.I a))
-choosing-awake a h = grind arith
+choosing_awake : (a : Stance) → T (choosing a) → T (not (at P.I a))
+choosing_awake a h = grind arith
 
-wait-calm : (s : Bool) (j : ℕ) (p : Place) → T (choosing (waits s j p)) → ⊥
-wait-calm s j p h = h
+wait_calm : (s : Bool) (j : ℕ) (p : Place) → T (choosing (waits s j p)) → ⊥
+wait_calm s j p h = h
 
 module _ (g : Machine) (inv : Inv g) (w : ℕ) (s : Bool) (j : ℕ) (p : Place) (e : g.arms w ≡ waits s j p) where
   fit : (i : ℕ) → Fit g.group s (g.arms i)
-  fit i = fit_of g w s (has-own g inv w s j p e) (g.arms i) (inv.own i)
+  fit i = fit_of g w s (has_own g inv w s j p e) (g.arms i) (inv.own i)
 
-  other-paid : (m : Move) (i : ℕ) → i ≢ w → 1 ≤ i → i ≤ g.n → T (paid m (g.arms i)) → potential s (moved g m i) w + 1 ≤ potential s g w
-  other-paid m i ne lo hi d =
-      let x = potential-other g w s j p e i ne lo hi (turn m g.group (g.arms i)) (act m g.n g.group g.arms (g.arms i)) (cond (paid m (g.arms i)) 3 0) (cond (paid m (g.arms i)) 2 0)
-      (turn-away m g.group s (g.arms i) (fit i)) (budget-act m g.n g.group g.arms s (g.arms i) (fit i))
-      (λ q. place-act m g.n g.group g.arms s (g.arms i) p (fit i) (turn-away m g.group s (g.arms i) (fit i) q)) in
+  other_paid : (m : Move) (i : ℕ) → i ≢ w → 1 ≤ i → i ≤ g.n → T (paid m (g.arms i)) → potential s (moved g m i) w + 1 ≤ potential s g w
+  other_paid m i ne lo hi d =
+      let x = potential_other g w s j p e i ne lo hi (turn m g.group (g.arms i)) (act m g.n g.group g.arms (g.arms i)) (cond (paid m (g.arms i)) 3 0) (cond (paid m (g.arms i)) 2 0)
+      (turn_away m g.group s (g.arms i) (fit i)) (budget_act m g.n g.group g.arms s (g.arms i) (fit i))
+      (λ q. place_act m g.n g.group g.arms s (g.arms i) p (fit i) (turn_away m g.group s (g.arms i) (fit i) q)) in
       pay (paid m (g.arms i)) d _ _ x
     where
       pay : (b : Bool) → T b → (x y : ℕ) → x + cond b 3 0 ≤ y + cond b 2 0 → x + 1 ≤ y
       pay true h x y l = omega arith
       pay false h x y l = absurd h
 
-  other-le : (m : Move) (i : ℕ) → i ≢ w → 1 ≤ i → i ≤ g.n → potential s (moved g m i) w ≤ potential s g w
-  other-le m i ne lo hi =
-      let x = potential-other g w s j p e i ne lo hi (turn m g.group (g.arms i)) (act m g.n g.group g.arms (g.arms i)) (cond (paid m (g.arms i)) 3 0) (cond (paid m (g.arms i)) 2 0)
-      (turn-away m g.group s (g.arms i) (fit i)) (budget-act m g.n g.group g.arms s (g.arms i) (fit i))
-      (λ q. place-act m g.n g.group g.arms s (g.arms i) p (fit i) (turn-away m g.group s (g.arms i) (fit i) q)) in
+  other_le : (m : Move) (i : ℕ) → i ≢ w → 1 ≤ i → i ≤ g.n → potential s (moved g m i) w ≤ potential s g w
+  other_le m i ne lo hi =
+      let x = potential_other g w s j p e i ne lo hi (turn m g.group (g.arms i)) (act m g.n g.group g.arms (g.arms i)) (cond (paid m (g.arms i)) 3 0) (cond (paid m (g.arms i)) 2 0)
+      (turn_away m g.group s (g.arms i) (fit i)) (budget_act m g.n g.group g.arms s (g.arms i) (fit i))
+      (λ q. place_act m g.n g.group g.arms s (g.arms i) p (fit i) (turn_away m g.group s (g.arms i) (fit i) q)) in
       pay (paid m (g.arms i)) _ _ x
     where
       pay : (b : Bool) (x y : ℕ) → x + cond b 3 0 ≤ y + cond b 2 0 → x ≤ y
       pay true x y l = omega arith
       pay false x y l = omega arith
 
-  foe-falls : (m : Move) (i : ℕ) → i ≢ w → 1 ≤ i → i ≤ g.n → T (same g.group s) → T (has (not s) (g.arms i)) → Quiet g.arms → T (allowed m (g.arms i)) → potential s (moved g m i) w + 1 ≤ potential s g w
-  foe-falls m i ne lo hi q h quiet k =
-      let x = potential-other g w s j p e i ne lo hi (turn m g.group (g.arms i)) (act m g.n g.group g.arms (g.arms i)) 1 (cond (paid m (g.arms i)) 2 0)
-      (turn-away m g.group s (g.arms i) (fit i)) (budget-act-critical m g.n g.group g.arms s (g.arms i) (fit i) q h quiet k)
-      (λ q. place-act m g.n g.group g.arms s (g.arms i) p (fit i) (turn-away m g.group s (g.arms i) (fit i) q)) in
-      pay (paid m (g.arms i)) (not-D m (g.arms i) (not s) h (quiet i)) _ _ x
+  foe_falls : (m : Move) (i : ℕ) → i ≢ w → 1 ≤ i → i ≤ g.n → T (same g.group s) → T (has (not s) (g.arms i)) → Quiet g.arms → T (allowed m (g.arms i)) → potential s (moved g m i) w + 1 ≤ potential s g w
+  foe_falls m i ne lo hi q h quiet k =
+      let x = potential_other g w s j p e i ne lo hi (turn m g.group (g.arms i)) (act m g.n g.group g.arms (g.arms i)) 1 (cond (paid m (g.arms i)) 2 0)
+      (turn_away m g.group s (g.arms i) (fit i)) (budget_act_critical m g.n g.group g.arms s (g.arms i) (fit i) q h quiet k)
+      (λ q. place_act m g.n g.group g.arms s (g.arms i) p (fit i) (turn_away m g.group s (g.arms i) (fit i) q)) in
+      pay (paid m (g.arms i)) (not_D m (g.arms i) (not s) h (quiet i)) _ _ x
     where
       pay : (b : Bool) → T (not b) → (x y : ℕ) → x + 1 ≤ y + cond b 2 0 → x + 1 ≤ y
       pay true h x y l = absurd h
       pay false h x y l = omega arith
 
   -- the waiting arm steps
-  own-potential : (k : Bool) → (T k → Quiet g.arms) → (T k → T (same g.group s) → (b : ℕ) → T (has (not s) (g.arms b)) → ⊥) → potential s (moved g step w) w + cond k 1 0 ≤ potential s g w
-  own-potential k quiet free =
-      subst (λ y. potential s (moved_to g (turn_step g.group y) w (step-arm g.n g.group g.arms y)) w + cond k 1 0 ≤ potential s g w) (sym e)
-      (potential-own g w s j p e (index_in g inv w s j p e).0 (index_in g inv w s j p e).1 k (λ x. quiet x j) (λ x q. none_of (has (not s) (g.arms j)) (free x q j)))
+  own_potential : (k : Bool) → (T k → Quiet g.arms) → (T k → T (same g.group s) → (b : ℕ) → T (has (not s) (g.arms b)) → ⊥) → potential s (moved g step w) w + cond k 1 0 ≤ potential s g w
+  own_potential k quiet free =
+      subst (λ y. potential s (moved_to g (turn_step g.group y) w (step_arm g.n g.group g.arms y)) w + cond k 1 0 ≤ potential s g w) (sym e)
+      (potential_own g w s j p e (index_in g inv w s j p e).0 (index_in g inv w s j p e).1 k (λ x. quiet x j) (λ x q. none_of (has (not s) (g.arms j)) (free x q j)))
 
   -- the group stays s where an arm with the other side stands against it
-  foe-holds : (b : ℕ) → T (same g.group s) → T (has (not s) (g.arms b)) → (m : Move) (a : Stance) → Own g.n g.group g.arms a → T (same (turn m g.group a) s)
-  foe-holds b q h begin a o = q
-  foe-holds b q h admit a o = q
-  foe-holds b q h leave a o = q
-  foe-holds b q h step (idle x) o = q
-  foe-holds b q h step (d1 x) o = q
-  foe-holds b q h step (d2 x) o = q
-  foe-holds b q h step (d3 u x) o = q
-  foe-holds b q h step (d4 u) o = q
-  foe-holds b q h step (d5 u) o = q
-  foe-holds b q h step (waits u x y) o = q
-  foe-holds b q h step (inside u x) o = q
-  foe-holds b q h step (x1 u) o = ⊎_elim (λ y. absurd (split-up (g.arms b) g.group s u y q h (o b))) (λ d. same-other u s d) (test (same u s))
+  foe_holds : (b : ℕ) → T (same g.group s) → T (has (not s) (g.arms b)) → (m : Move) (a : Stance) → Own g.n g.group g.arms a → T (same (turn m g.group a) s)
+  foe_holds b q h begin a o = q
+  foe_holds b q h admit a o = q
+  foe_holds b q h leave a o = q
+  foe_holds b q h step (idle x) o = q
+  foe_holds b q h step (d1 x) o = q
+  foe_holds b q h step (d2 x) o = q
+  foe_holds b q h step (d3 u x) o = q
+  foe_holds b q h step (d4 u) o = q
+  foe_holds b q h step (d5 u) o = q
+  foe_holds b q h step (waits u x y) o = q
+  foe_holds b q h step (inside u x) o = q
+  foe_holds b q h step (x1 u) o = ⊎_elim (λ y. absurd (split_up (g.arms b) g.group s u y q h (o b))) (λ d. same_other u s d) (test (same u s))
     where
-      split-up : (a : Stance) (β s u : Bool) → T (same u s) → T (same β s) → T (has (not s) a) → (T (has (not u) a) → T (same β (not u))) → ⊥
-      split-up a true true true y q h f = f h
-      split-up a true true false y q h f = y
-      split-up a true false u y q h f = q
-      split-up a false true u y q h f = q
-      split-up a false false true y q h f = y
-      split-up a false false false y q h f = f h
-  foe-holds b q h step (x2 u) o = q
+      split_up : (a : Stance) (β s u : Bool) → T (same u s) → T (same β s) → T (has (not s) a) → (T (has (not u) a) → T (same β (not u))) → ⊥
+      split_up a true true true y q h f = f h
+      split_up a true true false y q h f = y
+      split_up a true false u y q h f = q
+      split_up a false true u y q h f = q
+      split_up a false false true y q h f = y
+      split_up a false false false y q h f = f h
+  foe_holds b q h step (x2 u) o = q
 
-  quiet-after : (m : Move) (i : ℕ) → Quiet g.arms → T (not (paid m (g.arms i))) → Quiet (moved g m i).arms
-  quiet-after m i quiet d k =
+  quiet_after : (m : Move) (i : ℕ) → Quiet g.arms → T (not (paid m (g.arms i))) → Quiet (moved g m i).arms
+  quiet_after m i quiet d k =
       by (λ x. T (not (choosing x))) (eqb k i) (act m g.n g.group g.arms (g.arms i)) (g.arms k)
-      (λ t. quiet-act m g.n g.group g.arms (g.arms i) (quiet i) d) (λ t. quiet k)
+      (λ t. quiet_act m g.n g.group g.arms (g.arms i) (quiet i) d) (λ t. quiet k)
 
   -- the move of another arm than b
-  pub critical-stays : (m : Move) (i : ℕ) → 1 ≤ i → i ≤ g.n → (b : ℕ) → i ≢ b → Critical g w s b → Waiting s ((moved g m i).arms w) →
+  pub critical_stays : (m : Move) (i : ℕ) → 1 ≤ i → i ≤ g.n → (b : ℕ) → i ≢ b → Critical g w s b → Waiting s ((moved g m i).arms w) →
       (potential s (moved g m i) w ≤ potential s g w) → (potential s (moved g m i) w + 1 ≤ potential s g w) ⊎ Critical (moved g m i) w s b
-  critical-stays m i lo hi b ne (door x d) wait le = inr (door x (subst (λ y. T (at P.D y)) (sym (changed-other g.arms i _ b (λ q. ne (sym q)))) d))
-  critical-stays m i lo hi b ne (foe quiet q h) wait le = ⊎_elim
-      (λ d. inl (other-paid m i (λ z. not-w z d) lo hi d))
-      (λ d. inr (foe (quiet-after m i quiet d) (foe-holds b q h m (g.arms i) (inv.own i)) (subst (λ y. T (has (not s) y)) (sym (changed-other g.arms i _ b (λ z. ne (sym z)))) h)))
+  critical_stays m i lo hi b ne (door x d) wait le = inr (door x (subst (λ y. T (at P.D y)) (sym (changed_other g.arms i _ b (λ q. ne (sym q)))) d))
+  critical_stays m i lo hi b ne (foe quiet q h) wait le = ⊎_elim
+      (λ d. inl (other_paid m i (λ z. not_w z d) lo hi d))
+      (λ d. inr (foe (quiet_after m i quiet d) (foe_holds b q h m (g.arms i) (inv.own i)) (subst (λ y. T (has (not s) y)) (sym (changed_other g.arms i _ b (λ z. ne (sym z)))) h)))
       (test (paid m (g.arms i)))
     where
-      not-w : i ≡ w → T (paid m (g.arms i)) → ⊥
-      not-w z d = wait-unpaid m s j p (subst (λ y. T (paid m y)) e (subst (λ y. T (paid m (g.arms y))) z d))
-  critical-stays m i lo hi b ne (self x quiet free) wait le = ⊎_elim
-      (λ d. inl (other-paid m i (λ z. ne (z ∙ sym x)) lo hi d))
-      (λ d. inr (self x (quiet-after m i quiet d) (λ q k h.
-      let q' = turn-away m g.group s (g.arms i) (fit i) q in
-      ⊎_elim (λ y. free q' k y.0) (λ y. opposite g.group s q' y) (changed-seen g.group g.arms i _ (seen-act m g.n g.group g.arms (g.arms i)) k (not s) h))))
+      not_w : i ≡ w → T (paid m (g.arms i)) → ⊥
+      not_w z d = wait_unpaid m s j p (subst (λ y. T (paid m y)) e (subst (λ y. T (paid m (g.arms y))) z d))
+  critical_stays m i lo hi b ne (self x quiet free) wait le = ⊎_elim
+      (λ d. inl (other_paid m i (λ z. ne (z ∙ sym x)) lo hi d))
+      (λ d. inr (self x (quiet_after m i quiet d) (λ q k h.
+      let q' = turn_away m g.group s (g.arms i) (fit i) q in
+      ⊎_elim (λ y. free q' k y.0) (λ y. opposite g.group s q' y) (changed_seen g.group g.arms i _ (seen_act m g.n g.group g.arms (g.arms i)) k (not s) h))))
       (test (paid m (g.arms i)))
 
   -- any allowed move: w goes inside, or waits on and the potential does not rise
-  pub move-waits : (m : Move) (i : ℕ) → 1 ≤ i → i ≤ g.n → T (allowed m (g.arms i)) → Entry m i w (moved g m i) ⊎ (Waiting s ((moved g m i).arms w) × (potential s (moved g m i) w ≤ potential s g w))
-  move-waits m i lo hi k = ⊎_elim (λ x. inl x.0) (λ x. inr (x, never-up)) (move-out g inv w s j p e m i k)
+  pub move_waits : (m : Move) (i : ℕ) → 1 ≤ i → i ≤ g.n → T (allowed m (g.arms i)) → Entry m i w (moved g m i) ⊎ (Waiting s ((moved g m i).arms w) × (potential s (moved g m i) w ≤ potential s g w))
+  move_waits m i lo hi k = ⊎_elim (λ x. inl x.0) (λ x. inr (x, never_up)) (move_out g inv w s j p e m i k)
     where
       mine : (m : Move) (i : ℕ) → i ≡ w → T (allowed m (g.arms i)) → potential s (moved g m i) w ≤ potential s g w
       mine m i z k =
           let k' : T (allowed m (waits s j p)) = subst (λ y. T (allowed m y)) e (subst (λ y. T (allowed m (g.arms y))) z k) in
-          subst (λ m'. potential s (moved g m' i) w ≤ potential s g w) (sym (only-steps m s j p k'))
-          (subst (λ i'. potential s (moved g step i') w ≤ potential s g w) (sym z) (let y = own-potential false (λ x. absurd x) (λ x. absurd x) in omega arith))
+          subst (λ m'. potential s (moved g m' i) w ≤ potential s g w) (sym (only_steps m s j p k'))
+          (subst (λ i'. potential s (moved g step i') w ≤ potential s g w) (sym z) (let y = own_potential false (λ x. absurd x) (λ x. absurd x) in omega arith))
 
-      never-up : potential s (moved g m i) w ≤ potential s g w
-      never-up = ⊎_elim (λ z. mine m i z k) (λ ne. other-le m i ne lo hi) (cases_eq i w)
+      never_up : potential s (moved g m i) w ≤ potential s g w
+      never_up = ⊎_elim (λ z. mine m i z k) (λ ne. other_le m i ne lo hi) (cases_eq i w)
 
   -- the move of the critical arm itself
-  pub critical-falls : (m : Move) (b : ℕ) → 1 ≤ b → b ≤ g.n → T (allowed m (g.arms b)) → Critical g w s b → potential s (moved g m b) w + 1 ≤ potential s g w
-  critical-falls m b lo hi k (door ne d) = other-paid m b ne lo hi (D-moves m (g.arms b) d k)
-  critical-falls m b lo hi k (foe quiet q h) = foe-falls m b (λ z. not-both (g.arms w) s (has-own g inv w s j p e) (subst (λ y. T (has (not s) (g.arms y))) z h)) lo hi q h quiet k
-  critical-falls m b lo hi k (self z quiet free) =
+  pub critical_falls : (m : Move) (b : ℕ) → 1 ≤ b → b ≤ g.n → T (allowed m (g.arms b)) → Critical g w s b → potential s (moved g m b) w + 1 ≤ potential s g w
+  critical_falls m b lo hi k (door ne d) = other_paid m b ne lo hi (D_moves m (g.arms b) d k)
+  critical_falls m b lo hi k (foe quiet q h) = foe_falls m b (λ z. not_both (g.arms w) s (has_own g inv w s j p e) (subst (λ y. T (has (not s) (g.arms y))) z h)) lo hi q h quiet k
+  critical_falls m b lo hi k (self z quiet free) =
       let k' : T (allowed m (waits s j p)) = subst (λ y. T (allowed m y)) e (subst (λ y. T (allowed m (g.arms y))) z k) in
-      subst (λ m'. potential s (moved g m' b) w + 1 ≤ potential s g w) (sym (only-steps m s j p k'))
-      (subst (λ b'. potential s (moved g step b') w + 1 ≤ potential s g w) (sym z) (own-potential true (λ x. quiet) (λ x. free)))
+      subst (λ m'. potential s (moved g m' b) w + 1 ≤ potential s g w) (sym (only_steps m s j p k'))
+      (subst (λ b'. potential s (moved g step b') w + 1 ≤ potential s g w) (sym z) (own_potential true (λ x. quiet) (λ x. free)))
 
   -- a critical arm exists
-  pub critical-exists : (b : ℕ) × (1 ≤ b) × (b ≤ g.n) × T (not (at P.I (g.arms b))) × Critical g w s b
-  critical-exists = ⊎_elim
-      (λ x. let y = and_T (not (eqb x.0 w)) (at P.D (g.arms x.0)) x.3 in (x.0, x.1, x.2, D-awake (g.arms x.0) y.1, door (ne_test x.0 w y.0) y.1))
+  pub critical_exists : (b : ℕ) × (1 ≤ b) × (b ≤ g.n) × T (not (at P.I (g.arms b))) × Critical g w s b
+  critical_exists = ⊎_elim
+      (λ x. let y = and_T (not (eqb x.0 w)) (at P.D (g.arms x.0)) x.3 in (x.0, x.1, x.2, D_awake (g.arms x.0) y.1, door (ne_test x.0 w y.0) y.1))
       (λ none. calm (λ k. ⊎_elim (λ c. absurd (busy none k c)) (λ d. d) (test (choosing (g.arms k)))))
       (find (λ k. not (eqb k w) && at P.D (g.arms k)) g.n)
     where
       busy : ((k : ℕ) → 1 ≤ k → k ≤ g.n → T (not (not (eqb k w) && at P.D (g.arms k)))) → (k : ℕ) → T (choosing (g.arms k)) → ⊥
       busy none k c =
-          let r = inv.awake k (choosing-awake (g.arms k) c) in
-          clash (not (eqb k w) && at P.D (g.arms k)) (T_and (not (eqb k w)) (at P.D (g.arms k)) (test-ne k w (λ q. wait-calm s j p (subst (λ y. T (choosing y)) e (subst (λ y. T (choosing (g.arms y))) q c)))) (choosing-D (g.arms k) c)) (none k r.0 r.1)
+          let r = inv.awake k (choosing_awake (g.arms k) c) in
+          clash (not (eqb k w) && at P.D (g.arms k)) (T_and (not (eqb k w)) (at P.D (g.arms k)) (test_ne k w (λ q. wait_calm s j p (subst (λ y. T (choosing y)) e (subst (λ y. T (choosing (g.arms y))) q c)))) (choosing_D (g.arms k) c)) (none k r.0 r.1)
 
-      w-awake : T (not (at P.I (g.arms w)))
-      w-awake = subst (λ y. T (not (at P.I y))) (sym e) tt
+      w_awake : T (not (at P.I (g.arms w)))
+      w_awake = subst (λ y. T (not (at P.I y))) (sym e) tt
 
       calm : Quiet g.arms → (b : ℕ) × (1 ≤ b) × (b ≤ g.n) × T (not (at P.I (g.arms b))) × Critical g w s b
       calm quiet = ⊎_elim
           (λ q. ⊎_elim
-          (λ x. (x.0, x.1, x.2, has-awake (g.arms x.0) (not s) x.3, foe quiet q x.3))
-          (λ none. (w, (inv.awake w w-awake).0, (inv.awake w w-awake).1, w-awake, self refl quiet (λ q k h. let r = inv.range k (not s) h in clash (has (not s) (g.arms k)) h (none k r.0 r.1))))
+          (λ x. (x.0, x.1, x.2, has_awake (g.arms x.0) (not s) x.3, foe quiet q x.3))
+          (λ none. (w, (inv.awake w w_awake).0, (inv.awake w w_awake).1, w_awake, self refl quiet (λ q k h. let r = inv.range k (not s) h in clash (has (not s) (g.arms k)) h (none k r.0 r.1))))
           (find (λ k. has (not s) (g.arms k)) g.n))
-          (λ d. (w, (inv.awake w w-awake).0, (inv.awake w w-awake).1, w-awake, self refl quiet (λ q. absurd (clash (same g.group s) q d))))
+          (λ d. (w, (inv.awake w w_awake).0, (inv.awake w w_awake).1, w_awake, self refl quiet (λ q. absurd (clash (same g.group s) q d))))
           (test (same g.group s))

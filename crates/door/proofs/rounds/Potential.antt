@@ -4,16 +4,16 @@ use Rattle.std.proofs.lemmas.Bool.{cases_eq}
 use Rattle.door.specs.declared.position.Phase.TheVariants as P
 use Rattle.door.specs.declared.position.Place.{Place}
 use Rattle.door.specs.declared.position.Place.TheVariants.{W1, W2, W3, W4, W5, W6}
-use Rattle.door.proofs.Bools.{same, same-trans, clash, by}
-use Rattle.door.proofs.machine.Machine.{Stance, idle, d1, d2, d3, d4, d5, waits, inside, x1, x2, at, has, choosing, mygroup, flag, next, step-waiting, outcome, step-arm, begin-arm, admit-arm, leave-arm, turn_step, Move, begin, step, admit, leave, act, turn, may-step, allowed, Machine}
+use Rattle.door.proofs.Bools.{same, same_trans, clash, by}
+use Rattle.door.proofs.machine.Machine.{Stance, idle, d1, d2, d3, d4, d5, waits, inside, x1, x2, at, has, choosing, mygroup, flag, next, step_waiting, outcome, step_arm, begin_arm, admit_arm, leave_arm, turn_step, Move, begin, step, admit, leave, act, turn, may_step, allowed, Machine}
 
-abbrev pub place-cost : Place → ℕ
-place-cost W1 = 35
-place-cost W2 = 39
-place-cost W3 = 38
-place-cost W4 = 37
-place-cost W5 = 36
-place-cost W6 = 38
+abbrev pub place_cost : Place → ℕ
+place_cost W1 = 35
+place_cost W2 = 39
+place_cost W3 = 38
+place_cost W4 = 37
+place_cost W5 = 36
+place_cost W6 = 38
 
 -- an arm's budget: e says that the group is s
 abbrev pub budget : Bool → Bool → Stance → ℕ
@@ -23,88 +23,88 @@ budget e s (d2 g) = cond e 27 12
 budget e s (d3 u g) = cond (same u s) 24 (cond e 44 9)
 budget e s (d4 u) = cond (same u s) 21 (cond e 41 6)
 budget e s (d5 u) = cond (same u s) 18 (cond e 38 3)
-budget e s (waits u j p) = cond (same u s) 15 (cond e (place-cost p) 0)
+budget e s (waits u j p) = cond (same u s) 15 (cond e (place_cost p) 0)
 budget e s (inside u o) = cond (same u s) 15 (cond e (cond o 33 34) 0)
 budget e s (x1 u) = cond (same u s) 15 (cond e 32 0)
 budget e s (x2 u) = cond (same u s) 15 (cond e 31 0)
 
 -- the waiting arm's rank at a place, where the group is its side s: o, the arm at its index has the other side; f, its flag is up
-abbrev pub place-rank : Bool → Bool → Place → ℕ
-place-rank o f W1 = 6
-place-rank o f W2 = 5
-place-rank o f W3 = 4
-place-rank o f W4 = cond o 3 (cond f 3 1)
-place-rank o f W5 = cond o 3 (cond f 2 3)
-place-rank o f W6 = cond o 3 (cond f 1 2)
+abbrev pub place_rank : Bool → Bool → Place → ℕ
+place_rank o f W1 = 6
+place_rank o f W2 = 5
+place_rank o f W3 = 4
+place_rank o f W4 = cond o 3 (cond f 3 1)
+place_rank o f W5 = cond o 3 (cond f 2 3)
+place_rank o f W6 = cond o 3 (cond f 1 2)
 
-abbrev pub free-rank : Place → ℕ
-free-rank W1 = 1
-free-rank W2 = 5
-free-rank W3 = 4
-free-rank W4 = 3
-free-rank W5 = 2
-free-rank W6 = 4
+abbrev pub free_rank : Place → ℕ
+free_rank W1 = 1
+free_rank W2 = 5
+free_rank W3 = 4
+free_rank W4 = 3
+free_rank W5 = 2
+free_rank W6 = 4
 
 abbrev pub rank : Bool → ℕ → Bool → Stance → ℕ → Place → ℕ
-rank true n s a j p = 6 * (n - j) + 5 + place-rank (has (not s) a) (flag a) p
-rank false n s a j p = free-rank p
+rank true n s a j p = 6 * (n - j) + 5 + place_rank (has (not s) a) (flag a) p
+rank false n s a j p = free_rank p
 
-abbrev pub rank-of : Bool → ℕ → Bool → (ℕ → Stance) → Stance → ℕ
-rank-of e n s arms (idle g) = 0
-rank-of e n s arms (d1 g) = 0
-rank-of e n s arms (d2 g) = 0
-rank-of e n s arms (d3 u g) = 0
-rank-of e n s arms (d4 u) = 0
-rank-of e n s arms (d5 u) = 0
-rank-of e n s arms (waits u j p) = rank e n s (arms j) j p
-rank-of e n s arms (inside u o) = 0
-rank-of e n s arms (x1 u) = 0
-rank-of e n s arms (x2 u) = 0
+abbrev pub rank_of : Bool → ℕ → Bool → (ℕ → Stance) → Stance → ℕ
+rank_of e n s arms (idle g) = 0
+rank_of e n s arms (d1 g) = 0
+rank_of e n s arms (d2 g) = 0
+rank_of e n s arms (d3 u g) = 0
+rank_of e n s arms (d4 u) = 0
+rank_of e n s arms (d5 u) = 0
+rank_of e n s arms (waits u j p) = rank e n s (arms j) j p
+rank_of e n s arms (inside u o) = 0
+rank_of e n s arms (x1 u) = 0
+rank_of e n s arms (x2 u) = 0
 
 -- a sum over the arms 1 to n
 abbrev pub total : (ℕ → ℕ) → ℕ → ℕ
 total f zero = 0
 total f (suc n) = total f n + f (suc n)
 
-pub total-le : (f h : ℕ → ℕ) (n : ℕ) → ((k : ℕ) → f k ≤ h k) → total f n ≤ total h n
-total-le f h zero le = omega arith
-total-le f h (suc n) le = let x = total-le f h n le in let y = le (suc n) in omega arith
+pub total_le : (f h : ℕ → ℕ) (n : ℕ) → ((k : ℕ) → f k ≤ h k) → total f n ≤ total h n
+total_le f h zero le = omega arith
+total_le f h (suc n) le = let x = total_le f h n le in let y = le (suc n) in omega arith
 
-pub total-drop : (f h : ℕ → ℕ) (n c i : ℕ) → ((k : ℕ) → f k ≤ h k) → 1 ≤ i → i ≤ n → f i + c ≤ h i → total f n + c ≤ total h n
-total-drop f h zero c i le lo hi d = absurd (omega arith)
-total-drop f h (suc n) c i le lo hi d = ⊎_elim
-    (λ e. let x = total-le f h n le in let y : f (suc n) + c ≤ h (suc n) = subst (λ z. f z + c ≤ h z) e d in omega arith)
-    (λ ne. let ne' : i ≢ suc n = ne in let x = total-drop f h n c i le lo (omega arith) d in let y = le (suc n) in omega arith)
+pub total_drop : (f h : ℕ → ℕ) (n c i : ℕ) → ((k : ℕ) → f k ≤ h k) → 1 ≤ i → i ≤ n → f i + c ≤ h i → total f n + c ≤ total h n
+total_drop f h zero c i le lo hi d = absurd (omega arith)
+total_drop f h (suc n) c i le lo hi d = ⊎_elim
+    (λ e. let x = total_le f h n le in let y : f (suc n) + c ≤ h (suc n) = subst (λ z. f z + c ≤ h z) e d in omega arith)
+    (λ ne. let ne' : i ≢ suc n = ne in let x = total_drop f h n c i le lo (omega arith) d in let y = le (suc n) in omega arith)
     (cases_eq i (suc n))
 
-pub total-bound : (f : ℕ → ℕ) (n c : ℕ) → ((k : ℕ) → f k ≤ c) → total f n ≤ c * n
-total-bound f zero c le = omega arith
-total-bound f (suc n) c le = let x = total-bound f n c le in let y = le (suc n) in omega arith
+pub total_bound : (f : ℕ → ℕ) (n c : ℕ) → ((k : ℕ) → f k ≤ c) → total f n ≤ c * n
+total_bound f zero c le = omega arith
+total_bound f (suc n) c le = let x = total_bound f n c le in let y = le (suc n) in omega arith
 
-pub budget-bound : (e s : Bool) (a : Stance) → budget e s a ≤ 44
-budget-bound e s (idle g) = grind arith
-budget-bound e s (d1 g) = grind arith
-budget-bound e s (d2 g) = grind arith
-budget-bound e s (d3 u g) = grind arith
-budget-bound e s (d4 u) = grind arith
-budget-bound e s (d5 u) = grind arith
-budget-bound e s (waits u j p) = grind arith
-budget-bound e s (inside u o) = grind arith
-budget-bound e s (x1 u) = grind arith
-budget-bound e s (x2 u) = grind arith
+pub budget_bound : (e s : Bool) (a : Stance) → budget e s a ≤ 44
+budget_bound e s (idle g) = grind arith
+budget_bound e s (d1 g) = grind arith
+budget_bound e s (d2 g) = grind arith
+budget_bound e s (d3 u g) = grind arith
+budget_bound e s (d4 u) = grind arith
+budget_bound e s (d5 u) = grind arith
+budget_bound e s (waits u j p) = grind arith
+budget_bound e s (inside u o) = grind arith
+budget_bound e s (x1 u) = grind arith
+budget_bound e s (x2 u) = grind arith
 
 -- a turn away from s lowers every budget
-budget-turn : (s : Bool) (a : Stance) → budget false s a ≤ budget true s a
-budget-turn s (idle g) = grind arith
-budget-turn s (d1 g) = grind arith
-budget-turn s (d2 g) = grind arith
-budget-turn s (d3 u g) = grind arith
-budget-turn s (d4 u) = grind arith
-budget-turn s (d5 u) = grind arith
-budget-turn s (waits u j p) = grind arith
-budget-turn s (inside u o) = grind arith
-budget-turn s (x1 u) = grind arith
-budget-turn s (x2 u) = grind arith
+budget_turn : (s : Bool) (a : Stance) → budget false s a ≤ budget true s a
+budget_turn s (idle g) = grind arith
+budget_turn s (d1 g) = grind arith
+budget_turn s (d2 g) = grind arith
+budget_turn s (d3 u g) = grind arith
+budget_turn s (d4 u) = grind arith
+budget_turn s (d5 u) = grind arith
+budget_turn s (waits u j p) = grind arith
+budget_turn s (inside u o) = grind arith
+budget_turn s (x1 u) = grind arith
+budget_turn s (x2 u) = grind arith
 
 -- what the invariant says of another arm while an arm with side s waits
 abbrev pub Fit : Bool → Bool → Stance → Type 0
@@ -119,63 +119,63 @@ Fit β s (inside u o) = Unit {0}
 Fit β s (x1 u) = T (same (not u) s) → T (same β (not u))
 Fit β s (x2 u) = T (same β (not u))
 
-budget-W : (n : ℕ) (β : Bool) (b : Stance) (s u : Bool) (j : ℕ) (p : Place) → budget (same β s) s (step-waiting n β b u j p) ≤ budget (same β s) s (waits u j p)
-budget-W n β b s u j W1 = grind arith
-budget-W n β b s u j W2 = grind arith
-budget-W n β b s u j W3 = grind arith
-budget-W n β b s u j W4 = grind arith
-budget-W n β b s u j W5 = grind arith
-budget-W n β b s u j W6 = grind arith
+budget_W : (n : ℕ) (β : Bool) (b : Stance) (s u : Bool) (j : ℕ) (p : Place) → budget (same β s) s (step_waiting n β b u j p) ≤ budget (same β s) s (waits u j p)
+budget_W n β b s u j W1 = grind arith
+budget_W n β b s u j W2 = grind arith
+budget_W n β b s u j W3 = grind arith
+budget_W n β b s u j W4 = grind arith
+budget_W n β b s u j W5 = grind arith
+budget_W n β b s u j W6 = grind arith
 
 -- the budget of an arm that steps: 3 less in the doorway
-budget-step : (n : ℕ) (β : Bool) (arms : ℕ → Stance) (s : Bool) (a : Stance) → Fit β s a → budget (same (turn_step β a) s) s (step-arm n β arms a) + cond (at P.D a) 3 0 ≤ budget (same β s) s a
-budget-step n β arms s (idle g) f = grind arith
-budget-step n β arms s (d1 g) f = grind arith
-budget-step n β arms s (d2 g) f = grind arith
-budget-step n β arms s (d3 u g) f = grind arith
-budget-step n β arms s (d4 u) f = grind arith
-budget-step n β arms s (d5 u) f = grind arith
-budget-step n β arms s (waits u j p) f = let x = budget-W n β (arms j) s u j p in omega arith
-budget-step n β arms s (inside u o) f = grind arith
-budget-step n β arms s (x1 u) f = grind arith
-budget-step n β arms s (x2 u) f = grind arith
+budget_step : (n : ℕ) (β : Bool) (arms : ℕ → Stance) (s : Bool) (a : Stance) → Fit β s a → budget (same (turn_step β a) s) s (step_arm n β arms a) + cond (at P.D a) 3 0 ≤ budget (same β s) s a
+budget_step n β arms s (idle g) f = grind arith
+budget_step n β arms s (d1 g) f = grind arith
+budget_step n β arms s (d2 g) f = grind arith
+budget_step n β arms s (d3 u g) f = grind arith
+budget_step n β arms s (d4 u) f = grind arith
+budget_step n β arms s (d5 u) f = grind arith
+budget_step n β arms s (waits u j p) f = let x = budget_W n β (arms j) s u j p in omega arith
+budget_step n β arms s (inside u o) f = grind arith
+budget_step n β arms s (x1 u) f = grind arith
+budget_step n β arms s (x2 u) f = grind arith
 
 -- a critical step of an arm with the other side
-budget-critical-W : (n : ℕ) (β : Bool) (b : Stance) (s u : Bool) (j : ℕ) (p : Place) → T (same β s) → T (same (not s) u) → T (not (choosing b)) → budget (same β s) s (step-waiting n β b u j p) + 1 ≤ budget (same β s) s (waits u j p)
-budget-critical-W n β b s u j W1 q h c = grind arith
-budget-critical-W n β b s u j W2 q h c = grind arith
-budget-critical-W n β b s u j W3 q h c = grind arith
-budget-critical-W n β b s u j W4 q h c = grind arith
-budget-critical-W n β b s u j W5 q h c = grind arith
-budget-critical-W n β b s u j W6 q h c = grind arith
+budget_critical_W : (n : ℕ) (β : Bool) (b : Stance) (s u : Bool) (j : ℕ) (p : Place) → T (same β s) → T (same (not s) u) → T (not (choosing b)) → budget (same β s) s (step_waiting n β b u j p) + 1 ≤ budget (same β s) s (waits u j p)
+budget_critical_W n β b s u j W1 q h c = grind arith
+budget_critical_W n β b s u j W2 q h c = grind arith
+budget_critical_W n β b s u j W3 q h c = grind arith
+budget_critical_W n β b s u j W4 q h c = grind arith
+budget_critical_W n β b s u j W5 q h c = grind arith
+budget_critical_W n β b s u j W6 q h c = grind arith
 
-budget-critical : (n : ℕ) (β : Bool) (arms : ℕ → Stance) (s : Bool) (a : Stance) → Fit β s a → T (same β s) → T (has (not s) a) → ((k : ℕ) → T (not (choosing (arms k)))) → T (may-step a) →
-    budget (same (turn_step β a) s) s (step-arm n β arms a) + 1 ≤ budget (same β s) s a
-budget-critical n β arms s (idle g) f q h c k = absurd h
-budget-critical n β arms s (d1 g) f q h c k = absurd h
-budget-critical n β arms s (d2 g) f q h c k = absurd h
-budget-critical n β arms s (d3 u g) f q h c k = grind arith
-budget-critical n β arms s (d4 u) f q h c k = grind arith
-budget-critical n β arms s (d5 u) f q h c k = grind arith
-budget-critical n β arms s (waits u j p) f q h c k = budget-critical-W n β (arms j) s u j p q h (c j)
-budget-critical n β arms s (inside u o) f q h c k = absurd k
-budget-critical n β arms s (x1 u) f q h c k = grind arith
-budget-critical n β arms s (x2 u) f q h c k = grind arith
+budget_critical : (n : ℕ) (β : Bool) (arms : ℕ → Stance) (s : Bool) (a : Stance) → Fit β s a → T (same β s) → T (has (not s) a) → ((k : ℕ) → T (not (choosing (arms k)))) → T (may_step a) →
+    budget (same (turn_step β a) s) s (step_arm n β arms a) + 1 ≤ budget (same β s) s a
+budget_critical n β arms s (idle g) f q h c k = absurd h
+budget_critical n β arms s (d1 g) f q h c k = absurd h
+budget_critical n β arms s (d2 g) f q h c k = absurd h
+budget_critical n β arms s (d3 u g) f q h c k = grind arith
+budget_critical n β arms s (d4 u) f q h c k = grind arith
+budget_critical n β arms s (d5 u) f q h c k = grind arith
+budget_critical n β arms s (waits u j p) f q h c k = budget_critical_W n β (arms j) s u j p q h (c j)
+budget_critical n β arms s (inside u o) f q h c k = absurd k
+budget_critical n β arms s (x1 u) f q h c k = grind arith
+budget_critical n β arms s (x2 u) f q h c k = grind arith
 
-budget-begin : (e s : Bool) (a : Stance) → budget e s (begin-arm a) ≤ budget e s a
-budget-begin e s a = grind arith
+budget_begin : (e s : Bool) (a : Stance) → budget e s (begin_arm a) ≤ budget e s a
+budget_begin e s a = grind arith
 
-budget-admit : (e s : Bool) (a : Stance) → budget e s (admit-arm a) ≤ budget e s a
-budget-admit e s a = grind arith
+budget_admit : (e s : Bool) (a : Stance) → budget e s (admit_arm a) ≤ budget e s a
+budget_admit e s a = grind arith
 
-budget-leave : (e s : Bool) (a : Stance) → budget e s (leave-arm a) ≤ budget e s a
-budget-leave e s a = grind arith
+budget_leave : (e s : Bool) (a : Stance) → budget e s (leave_arm a) ≤ budget e s a
+budget_leave e s a = grind arith
 
-budget-admit-critical : (e s : Bool) (a : Stance) → T e → T (has (not s) a) → T (allowed admit a) → budget e s (admit-arm a) + 1 ≤ budget e s a
-budget-admit-critical e s a q h k = grind arith
+budget_admit_critical : (e s : Bool) (a : Stance) → T e → T (has (not s) a) → T (allowed admit a) → budget e s (admit_arm a) + 1 ≤ budget e s a
+budget_admit_critical e s a q h k = grind arith
 
-budget-leave-critical : (e s : Bool) (a : Stance) → T e → T (has (not s) a) → T (allowed leave a) → budget e s (leave-arm a) + 1 ≤ budget e s a
-budget-leave-critical e s a q h k = grind arith
+budget_leave_critical : (e s : Bool) (a : Stance) → T e → T (has (not s) a) → T (allowed leave a) → budget e s (leave_arm a) + 1 ≤ budget e s a
+budget_leave_critical e s a q h k = grind arith
 
 abbrev pub paid : Move → Stance → Bool
 paid begin a = false
@@ -184,23 +184,23 @@ paid admit a = false
 paid leave a = false
 
 -- the budget of an arm that moves
-pub budget-act : (m : Move) (n : ℕ) (β : Bool) (arms : ℕ → Stance) (s : Bool) (a : Stance) → Fit β s a → budget (same (turn m β a) s) s (act m n β arms a) + cond (paid m a) 3 0 ≤ budget (same β s) s a
-budget-act begin n β arms s a f = let x = budget-begin (same β s) s a in omega arith
-budget-act step n β arms s a f = budget-step n β arms s a f
-budget-act admit n β arms s a f = let x = budget-admit (same β s) s a in omega arith
-budget-act leave n β arms s a f = let x = budget-leave (same β s) s a in omega arith
+pub budget_act : (m : Move) (n : ℕ) (β : Bool) (arms : ℕ → Stance) (s : Bool) (a : Stance) → Fit β s a → budget (same (turn m β a) s) s (act m n β arms a) + cond (paid m a) 3 0 ≤ budget (same β s) s a
+budget_act begin n β arms s a f = let x = budget_begin (same β s) s a in omega arith
+budget_act step n β arms s a f = budget_step n β arms s a f
+budget_act admit n β arms s a f = let x = budget_admit (same β s) s a in omega arith
+budget_act leave n β arms s a f = let x = budget_leave (same β s) s a in omega arith
 
-pub budget-act-critical : (m : Move) (n : ℕ) (β : Bool) (arms : ℕ → Stance) (s : Bool) (a : Stance) → Fit β s a → T (same β s) → T (has (not s) a) → ((k : ℕ) → T (not (choosing (arms k)))) → T (allowed m a) →
+pub budget_act_critical : (m : Move) (n : ℕ) (β : Bool) (arms : ℕ → Stance) (s : Bool) (a : Stance) → Fit β s a → T (same β s) → T (has (not s) a) → ((k : ℕ) → T (not (choosing (arms k)))) → T (allowed m a) →
     budget (same (turn m β a) s) s (act m n β arms a) + 1 ≤ budget (same β s) s a
-budget-act-critical begin n β arms s a f q h c k = absurd (let z : ⊥ = grind arith in z)
-budget-act-critical step n β arms s a f q h c k = budget-critical n β arms s a f q h c k
-budget-act-critical admit n β arms s a f q h c k = budget-admit-critical (same β s) s a q h k
-budget-act-critical leave n β arms s a f q h c k = budget-leave-critical (same β s) s a q h k
+budget_act_critical begin n β arms s a f q h c k = absurd (let z : ⊥ = grind arith in z)
+budget_act_critical step n β arms s a f q h c k = budget_critical n β arms s a f q h c k
+budget_act_critical admit n β arms s a f q h c k = budget_admit_critical (same β s) s a q h k
+budget_act_critical leave n β arms s a f q h c k = budget_leave_critical (same β s) s a q h k
 
 -- the group turns only away from the waiting arm's side
-pub turn-away : (m : Move) (β s : Bool) (a : Stance) → Fit β s a → T (same (turn m β a) s) → T (same β s)
-turn-away begin β s a f h = h
-turn-away step β s a f h = go a f h
+pub turn_away : (m : Move) (β s : Bool) (a : Stance) → Fit β s a → T (same (turn m β a) s) → T (same β s)
+turn_away begin β s a f h = h
+turn_away step β s a f h = go a f h
   where
     go : (a : Stance) → Fit β s a → T (same (turn_step β a) s) → T (same β s)
     go (idle g) f h = h
@@ -211,60 +211,60 @@ turn-away step β s a f h = go a f h
     go (d5 u) f h = h
     go (waits u j p) f h = h
     go (inside u o) f h = h
-    go (x1 u) f h = same-trans β (not u) s (f h) h
+    go (x1 u) f h = same_trans β (not u) s (f h) h
     go (x2 u) f h = h
-turn-away admit β s a f h = h
-turn-away leave β s a f h = h
+turn_away admit β s a f h = h
+turn_away leave β s a f h = h
 
-pub budget-falls : (e e' s : Bool) (a : Stance) → (T e' → T e) → budget e' s a ≤ budget e s a
-budget-falls true true s a f = omega arith
-budget-falls true false s a f = budget-turn s a
-budget-falls false true s a f = absurd (f tt)
-budget-falls false false s a f = omega arith
+pub budget_falls : (e e' s : Bool) (a : Stance) → (T e' → T e) → budget e' s a ≤ budget e s a
+budget_falls true true s a f = omega arith
+budget_falls true false s a f = budget_turn s a
+budget_falls false true s a f = absurd (f tt)
+budget_falls false false s a f = omega arith
 
 -- the waiting arm's rank, as the arm at its index moves
-free-low : (p : Place) → free-rank p ≤ 5
-free-low p = grind arith
+free_low : (p : Place) → free_rank p ≤ 5
+free_low p = grind arith
 
-pub rank-low : (e : Bool) (n : ℕ) (s : Bool) (a a' : Stance) (j : ℕ) (p : Place) → rank false n s a j p ≤ rank e n s a' j p
-rank-low true n s a a' j p = let x = free-low p in omega arith
-rank-low false n s a a' j p = omega arith
+pub rank_low : (e : Bool) (n : ℕ) (s : Bool) (a a' : Stance) (j : ℕ) (p : Place) → rank false n s a j p ≤ rank e n s a' j p
+rank_low true n s a a' j p = let x = free_low p in omega arith
+rank_low false n s a a' j p = omega arith
 
-place-W : (o f : Bool) (p : Place) → 1 ≤ place-rank o f p
-place-W o f p = grind arith
+place_W : (o f : Bool) (p : Place) → 1 ≤ place_rank o f p
+place_W o f p = grind arith
 
-pub keeps-look : (n : ℕ) (β : Bool) (b : Stance) (s u : Bool) (j : ℕ) (p p' : Place) → place-rank (has (not s) (step-waiting n β b u j p)) (flag (step-waiting n β b u j p)) p' ≤ place-rank (has (not s) (waits u j p)) true p'
-keeps-look n β b s u j p p' =
-    outcome (λ r. place-rank (has (not s) r) (flag r) p' ≤ place-rank (has (not s) (waits u j p)) true p') n β b u (λ j p. omega arith) (omega arith) j p
+pub keeps_look : (n : ℕ) (β : Bool) (b : Stance) (s u : Bool) (j : ℕ) (p p' : Place) → place_rank (has (not s) (step_waiting n β b u j p)) (flag (step_waiting n β b u j p)) p' ≤ place_rank (has (not s) (waits u j p)) true p'
+keeps_look n β b s u j p p' =
+    outcome (λ r. place_rank (has (not s) r) (flag r) p' ≤ place_rank (has (not s) (waits u j p)) true p') n β b u (λ j p. omega arith) (omega arith) j p
 
-place-step : (n : ℕ) (β : Bool) (arms : ℕ → Stance) (s : Bool) (a : Stance) (p : Place) → Fit β s a → T (same β s) →
-    place-rank (has (not s) (step-arm n β arms a)) (flag (step-arm n β arms a)) p ≤ place-rank (has (not s) a) (flag a) p + cond (at P.D a) 2 0
-place-step n β arms s (idle g) p f q = grind arith
-place-step n β arms s (d1 g) p f q = grind arith
-place-step n β arms s (d2 g) p f q = grind arith
-place-step n β arms s (d3 u g) p f q = grind arith
-place-step n β arms s (d4 u) p f q = grind arith
-place-step n β arms s (d5 u) p f q = grind arith
-place-step n β arms s (waits u j p') p f q = let x = keeps-look n β (arms j) s u j p' p in omega arith
-place-step n β arms s (inside u o) p f q = grind arith
-place-step n β arms s (x1 u) p f q = grind arith
-place-step n β arms s (x2 u) p f q = grind arith
+place_step : (n : ℕ) (β : Bool) (arms : ℕ → Stance) (s : Bool) (a : Stance) (p : Place) → Fit β s a → T (same β s) →
+    place_rank (has (not s) (step_arm n β arms a)) (flag (step_arm n β arms a)) p ≤ place_rank (has (not s) a) (flag a) p + cond (at P.D a) 2 0
+place_step n β arms s (idle g) p f q = grind arith
+place_step n β arms s (d1 g) p f q = grind arith
+place_step n β arms s (d2 g) p f q = grind arith
+place_step n β arms s (d3 u g) p f q = grind arith
+place_step n β arms s (d4 u) p f q = grind arith
+place_step n β arms s (d5 u) p f q = grind arith
+place_step n β arms s (waits u j p') p f q = let x = keeps_look n β (arms j) s u j p' p in omega arith
+place_step n β arms s (inside u o) p f q = grind arith
+place_step n β arms s (x1 u) p f q = grind arith
+place_step n β arms s (x2 u) p f q = grind arith
 
-place-begin : (s : Bool) (a : Stance) (p : Place) → place-rank (has (not s) (begin-arm a)) (flag (begin-arm a)) p ≤ place-rank (has (not s) a) (flag a) p
-place-begin s a p = grind arith
+place_begin : (s : Bool) (a : Stance) (p : Place) → place_rank (has (not s) (begin_arm a)) (flag (begin_arm a)) p ≤ place_rank (has (not s) a) (flag a) p
+place_begin s a p = grind arith
 
-place-admit : (s : Bool) (a : Stance) (p : Place) → place-rank (has (not s) (admit-arm a)) (flag (admit-arm a)) p ≤ place-rank (has (not s) a) (flag a) p
-place-admit s a p = grind arith
+place_admit : (s : Bool) (a : Stance) (p : Place) → place_rank (has (not s) (admit_arm a)) (flag (admit_arm a)) p ≤ place_rank (has (not s) a) (flag a) p
+place_admit s a p = grind arith
 
-place-leave : (s : Bool) (a : Stance) (p : Place) → place-rank (has (not s) (leave-arm a)) (flag (leave-arm a)) p ≤ place-rank (has (not s) a) (flag a) p
-place-leave s a p = grind arith
+place_leave : (s : Bool) (a : Stance) (p : Place) → place_rank (has (not s) (leave_arm a)) (flag (leave_arm a)) p ≤ place_rank (has (not s) a) (flag a) p
+place_leave s a p = grind arith
 
-pub place-act : (m : Move) (n : ℕ) (β : Bool) (arms : ℕ → Stance) (s : Bool) (a : Stance) (p : Place) → Fit β s a → T (same β s) →
-    place-rank (has (not s) (act m n β arms a)) (flag (act m n β arms a)) p ≤ place-rank (has (not s) a) (flag a) p + cond (paid m a) 2 0
-place-act begin n β arms s a p f q = let x = place-begin s a p in omega arith
-place-act step n β arms s a p f q = place-step n β arms s a p f q
-place-act admit n β arms s a p f q = let x = place-admit s a p in omega arith
-place-act leave n β arms s a p f q = let x = place-leave s a p in omega arith
+pub place_act : (m : Move) (n : ℕ) (β : Bool) (arms : ℕ → Stance) (s : Bool) (a : Stance) (p : Place) → Fit β s a → T (same β s) →
+    place_rank (has (not s) (act m n β arms a)) (flag (act m n β arms a)) p ≤ place_rank (has (not s) a) (flag a) p + cond (paid m a) 2 0
+place_act begin n β arms s a p f q = let x = place_begin s a p in omega arith
+place_act step n β arms s a p f q = place_step n β arms s a p f q
+place_act admit n β arms s a p f q = let x = place_admit s a p in omega arith
+place_act leave n β arms s a p f q = let x = place_leave s a p in omega arith
 
 abbrev pub early : Place → Bool
 early W1 = true
@@ -274,19 +274,19 @@ early W4 = false
 early W5 = false
 early W6 = false
 
-pub free-late : (p : Place) → T (not (early p)) → 2 ≤ free-rank p
-free-late p h = grind arith
+pub free_late : (p : Place) → T (not (early p)) → 2 ≤ free_rank p
+free_late p h = grind arith
 
-leaf4 : (k : Bool) (a : Stance) (s : Bool) → T (flag a) → (T k → T (not (has (not s) a))) → place-rank (has (not s) a) (flag a) W5 + cond k 1 0 ≤ place-rank (has (not s) a) (flag a) W4
+leaf4 : (k : Bool) (a : Stance) (s : Bool) → T (flag a) → (T k → T (not (has (not s) a))) → place_rank (has (not s) a) (flag a) W5 + cond k 1 0 ≤ place_rank (has (not s) a) (flag a) W4
 leaf4 k a s f h = grind arith
 
-leaf5 : (k : Bool) (a : Stance) (s : Bool) → (T k → T (not (has (not s) a))) → place-rank (has (not s) a) (flag a) W6 + cond k 1 0 ≤ place-rank (has (not s) a) (flag a) W5
+leaf5 : (k : Bool) (a : Stance) (s : Bool) → (T k → T (not (has (not s) a))) → place_rank (has (not s) a) (flag a) W6 + cond k 1 0 ≤ place_rank (has (not s) a) (flag a) W5
 leaf5 k a s h = grind arith
 
-leaf6 : (k : Bool) (a : Stance) (s : Bool) → T (not (same (mygroup a) s)) → (T k → T (not (has (not s) a))) → place-rank (has (not s) a) (flag a) W4 + cond k 1 0 ≤ place-rank (has (not s) a) (flag a) W6
+leaf6 : (k : Bool) (a : Stance) (s : Bool) → T (not (same (mygroup a) s)) → (T k → T (not (has (not s) a))) → place_rank (has (not s) a) (flag a) W4 + cond k 1 0 ≤ place_rank (has (not s) a) (flag a) W6
 leaf6 k a s f h = grind arith
 
-leaf3 : (o f : Bool) → place-rank o f W4 ≤ 3
+leaf3 : (o f : Bool) → place_rank o f W4 ≤ 3
 leaf3 o f = grind arith
 
 one : (k : Bool) → cond k 1 0 ≤ 1
@@ -297,80 +297,80 @@ less k x y h = let z = one k in omega arith
 
 -- the waiting arm's own step: never up, and down if k, where nobody is choosing and the arm is free to go
 module _ (n : ℕ) (s : Bool) (arms : ℕ → Stance) (j : ℕ) (lo : 1 ≤ j) (hi : j ≤ n) where
-  next-rank : (e : Bool) (p : Place) → T (not (early p)) → rank-of e n s arms (next n s j) + 1 ≤ rank e n s (arms j) j p
-  next-rank true p l =
-      let x = place-W (has (not s) (arms j)) (flag (arms j)) p in
-      by (λ r. rank-of true n s arms r + 1 ≤ rank true n s (arms j) j p) (ltb j n) (waits s (j + 1) W1) (inside s false)
+  next_rank : (e : Bool) (p : Place) → T (not (early p)) → rank_of e n s arms (next n s j) + 1 ≤ rank e n s (arms j) j p
+  next_rank true p l =
+      let x = place_W (has (not s) (arms j)) (flag (arms j)) p in
+      by (λ r. rank_of true n s arms r + 1 ≤ rank true n s (arms j) j p) (ltb j n) (waits s (j + 1) W1) (inside s false)
       (λ d. let r = ltb→lt j n d in omega arith)
       (λ d. omega arith)
-  next-rank false p l =
-      let x = free-late p l in
-      by (λ r. rank-of false n s arms r + 1 ≤ rank false n s (arms j) j p) (ltb j n) (waits s (j + 1) W1) (inside s false) (λ q. omega arith) (λ d. omega arith)
+  next_rank false p l =
+      let x = free_late p l in
+      by (λ r. rank_of false n s arms r + 1 ≤ rank false n s (arms j) j p) (ltb j n) (waits s (j + 1) W1) (inside s false) (λ q. omega arith) (λ d. omega arith)
 
-  rank1 : (e : Bool) → rank-of e n s arms (cond e (waits s j W2) (inside s false)) + 1 ≤ rank e n s (arms j) j W1
+  rank1 : (e : Bool) → rank_of e n s arms (cond e (waits s j W2) (inside s false)) + 1 ≤ rank e n s (arms j) j W1
   rank1 true = omega arith
   rank1 false = omega arith
 
-  rank2 : (e k : Bool) → (T k → T (not (choosing (arms j)))) → rank-of e n s arms (cond (choosing (arms j)) (waits s j W2) (waits s j W3)) + cond k 1 0 ≤ rank e n s (arms j) j W2
-  rank2 true k h = by (λ r. rank-of true n s arms r + cond k 1 0 ≤ rank true n s (arms j) j W2) (choosing (arms j)) (waits s j W2) (waits s j W3)
+  rank2 : (e k : Bool) → (T k → T (not (choosing (arms j)))) → rank_of e n s arms (cond (choosing (arms j)) (waits s j W2) (waits s j W3)) + cond k 1 0 ≤ rank e n s (arms j) j W2
+  rank2 true k h = by (λ r. rank_of true n s arms r + cond k 1 0 ≤ rank true n s (arms j) j W2) (choosing (arms j)) (waits s j W2) (waits s j W3)
       (λ q. go k h q) (λ d. let z = one k in omega arith)
     where
       go : (k : Bool) → (T k → T (not (choosing (arms j)))) → T (choosing (arms j)) → rank true n s (arms j) j W2 + cond k 1 0 ≤ rank true n s (arms j) j W2
       go true h q = absurd (clash (choosing (arms j)) q (h tt))
       go false h q = omega arith
-  rank2 false k h = by (λ r. rank-of false n s arms r + cond k 1 0 ≤ rank false n s (arms j) j W2) (choosing (arms j)) (waits s j W2) (waits s j W3)
+  rank2 false k h = by (λ r. rank_of false n s arms r + cond k 1 0 ≤ rank false n s (arms j) j W2) (choosing (arms j)) (waits s j W2) (waits s j W3)
       (λ q. go k h q) (λ d. let z = one k in omega arith)
     where
       go : (k : Bool) → (T k → T (not (choosing (arms j)))) → T (choosing (arms j)) → rank false n s (arms j) j W2 + cond k 1 0 ≤ rank false n s (arms j) j W2
       go true h q = absurd (clash (choosing (arms j)) q (h tt))
       go false h q = omega arith
 
-  rank3 : (e : Bool) → rank-of e n s arms (cond (same (mygroup (arms j)) s) (next n s j) (waits s j W4)) + 1 ≤ rank e n s (arms j) j W3
-  rank3 true = by (λ r. rank-of true n s arms r + 1 ≤ rank true n s (arms j) j W3) (same (mygroup (arms j)) s) (next n s j) (waits s j W4)
-      (λ q. next-rank true W3 tt) (λ d. let z = leaf3 (has (not s) (arms j)) (flag (arms j)) in omega arith)
-  rank3 false = by (λ r. rank-of false n s arms r + 1 ≤ rank false n s (arms j) j W3) (same (mygroup (arms j)) s) (next n s j) (waits s j W4)
-      (λ q. next-rank false W3 tt) (λ d. omega arith)
+  rank3 : (e : Bool) → rank_of e n s arms (cond (same (mygroup (arms j)) s) (next n s j) (waits s j W4)) + 1 ≤ rank e n s (arms j) j W3
+  rank3 true = by (λ r. rank_of true n s arms r + 1 ≤ rank true n s (arms j) j W3) (same (mygroup (arms j)) s) (next n s j) (waits s j W4)
+      (λ q. next_rank true W3 tt) (λ d. let z = leaf3 (has (not s) (arms j)) (flag (arms j)) in omega arith)
+  rank3 false = by (λ r. rank_of false n s arms r + 1 ≤ rank false n s (arms j) j W3) (same (mygroup (arms j)) s) (next n s j) (waits s j W4)
+      (λ q. next_rank false W3 tt) (λ d. omega arith)
 
-  rank4 : (e k : Bool) → (T k → T e → T (not (has (not s) (arms j)))) → rank-of e n s arms (cond (flag (arms j)) (waits s j W5) (next n s j)) + cond k 1 0 ≤ rank e n s (arms j) j W4
-  rank4 true k h = by (λ r. rank-of true n s arms r + cond k 1 0 ≤ rank true n s (arms j) j W4) (flag (arms j)) (waits s j W5) (next n s j)
-      (λ q. let z = leaf4 k (arms j) s q (λ x. h x tt) in omega arith) (λ d. less k _ _ (next-rank true W4 tt))
-  rank4 false k h = by (λ r. rank-of false n s arms r + cond k 1 0 ≤ rank false n s (arms j) j W4) (flag (arms j)) (waits s j W5) (next n s j)
-      (λ q. let z = one k in omega arith) (λ d. less k _ _ (next-rank false W4 tt))
+  rank4 : (e k : Bool) → (T k → T e → T (not (has (not s) (arms j)))) → rank_of e n s arms (cond (flag (arms j)) (waits s j W5) (next n s j)) + cond k 1 0 ≤ rank e n s (arms j) j W4
+  rank4 true k h = by (λ r. rank_of true n s arms r + cond k 1 0 ≤ rank true n s (arms j) j W4) (flag (arms j)) (waits s j W5) (next n s j)
+      (λ q. let z = leaf4 k (arms j) s q (λ x. h x tt) in omega arith) (λ d. less k _ _ (next_rank true W4 tt))
+  rank4 false k h = by (λ r. rank_of false n s arms r + cond k 1 0 ≤ rank false n s (arms j) j W4) (flag (arms j)) (waits s j W5) (next n s j)
+      (λ q. let z = one k in omega arith) (λ d. less k _ _ (next_rank false W4 tt))
 
-  rank5 : (e k : Bool) → (T k → T e → T (not (has (not s) (arms j)))) → rank-of e n s arms (cond e (waits s j W6) (next n s j)) + cond k 1 0 ≤ rank e n s (arms j) j W5
+  rank5 : (e k : Bool) → (T k → T e → T (not (has (not s) (arms j)))) → rank_of e n s arms (cond e (waits s j W6) (next n s j)) + cond k 1 0 ≤ rank e n s (arms j) j W5
   rank5 true k h = let z = leaf5 k (arms j) s (λ x. h x tt) in omega arith
-  rank5 false k h = less k _ _ (next-rank false W5 tt)
+  rank5 false k h = less k _ _ (next_rank false W5 tt)
 
-  rank6 : (e k : Bool) → (T k → T e → T (not (has (not s) (arms j)))) → rank-of e n s arms (cond (same (mygroup (arms j)) s) (next n s j) (waits s j W4)) + cond k 1 0 ≤ rank e n s (arms j) j W6
-  rank6 true k h = by (λ r. rank-of true n s arms r + cond k 1 0 ≤ rank true n s (arms j) j W6) (same (mygroup (arms j)) s) (next n s j) (waits s j W4)
-      (λ q. less k _ _ (next-rank true W6 tt)) (λ d. let z = leaf6 k (arms j) s d (λ x. h x tt) in omega arith)
-  rank6 false k h = by (λ r. rank-of false n s arms r + cond k 1 0 ≤ rank false n s (arms j) j W6) (same (mygroup (arms j)) s) (next n s j) (waits s j W4)
-      (λ q. less k _ _ (next-rank false W6 tt)) (λ d. let z = one k in omega arith)
+  rank6 : (e k : Bool) → (T k → T e → T (not (has (not s) (arms j)))) → rank_of e n s arms (cond (same (mygroup (arms j)) s) (next n s j) (waits s j W4)) + cond k 1 0 ≤ rank e n s (arms j) j W6
+  rank6 true k h = by (λ r. rank_of true n s arms r + cond k 1 0 ≤ rank true n s (arms j) j W6) (same (mygroup (arms j)) s) (next n s j) (waits s j W4)
+      (λ q. less k _ _ (next_rank true W6 tt)) (λ d. let z = leaf6 k (arms j) s d (λ x. h x tt) in omega arith)
+  rank6 false k h = by (λ r. rank_of false n s arms r + cond k 1 0 ≤ rank false n s (arms j) j W6) (same (mygroup (arms j)) s) (next n s j) (waits s j W4)
+      (λ q. less k _ _ (next_rank false W6 tt)) (λ d. let z = one k in omega arith)
 
-  pub wait-rank : (β k : Bool) (p : Place) → (T k → T (not (choosing (arms j)))) → (T k → T (same β s) → T (not (has (not s) (arms j)))) →
-      rank-of (same β s) n s arms (step-waiting n β (arms j) s j p) + cond k 1 0 ≤ rank (same β s) n s (arms j) j p
-  wait-rank β k W1 c h = less k _ _ (rank1 (same β s))
-  wait-rank β k W2 c h = rank2 (same β s) k c
-  wait-rank β k W3 c h = less k _ _ (rank3 (same β s))
-  wait-rank β k W4 c h = rank4 (same β s) k h
-  wait-rank β k W5 c h = rank5 (same β s) k h
-  wait-rank β k W6 c h = rank6 (same β s) k h
+  pub wait_rank : (β k : Bool) (p : Place) → (T k → T (not (choosing (arms j)))) → (T k → T (same β s) → T (not (has (not s) (arms j)))) →
+      rank_of (same β s) n s arms (step_waiting n β (arms j) s j p) + cond k 1 0 ≤ rank (same β s) n s (arms j) j p
+  wait_rank β k W1 c h = less k _ _ (rank1 (same β s))
+  wait_rank β k W2 c h = rank2 (same β s) k c
+  wait_rank β k W3 c h = less k _ _ (rank3 (same β s))
+  wait_rank β k W4 c h = rank4 (same β s) k h
+  wait_rank β k W5 c h = rank5 (same β s) k h
+  wait_rank β k W6 c h = rank6 (same β s) k h
 
 -- the potential
 abbrev pub mask : Bool → Bool → (ℕ → Stance) → ℕ → ℕ → ℕ
 mask e s arms w k = cond (eqb k w) 0 (budget e s (arms k))
 
 abbrev pub potential : Bool → Machine → ℕ → ℕ
-potential s g w = rank-of (same g.group s) g.n s g.arms (g.arms w) + total (mask (same g.group s) s g.arms w) g.n
+potential s g w = rank_of (same g.group s) g.n s g.arms (g.arms w) + total (mask (same g.group s) s g.arms w) g.n
 
-pub mask-on : (b : Bool) (x y : ℕ) → T b → cond b 0 x ≤ y
-mask-on true x y h = omega arith
-mask-on false x y h = absurd h
+pub mask_on : (b : Bool) (x y : ℕ) → T b → cond b 0 x ≤ y
+mask_on true x y h = omega arith
+mask_on false x y h = absurd h
 
-pub mask-off : (b : Bool) (x y c : ℕ) → T (not b) → x + c ≤ y → cond b 0 x + c ≤ cond b 0 y
-mask-off true x y c h l = absurd h
-mask-off false x y c h l = l
+pub mask_off : (b : Bool) (x y c : ℕ) → T (not b) → x + c ≤ y → cond b 0 x + c ≤ cond b 0 y
+mask_off true x y c h l = absurd h
+mask_off false x y c h l = l
 
-pub mask-le : (b : Bool) (x y : ℕ) → x ≤ y → cond b 0 x ≤ cond b 0 y
-mask-le true x y l = omega arith
-mask-le false x y l = l
+pub mask_le : (b : Bool) (x y : ℕ) → x ≤ y → cond b 0 x ≤ cond b 0 y
+mask_le true x y l = omega arith
+mask_le false x y l = l

@@ -3,18 +3,18 @@ use Rattle.std.proofs.Common.{◌≡◌, ℕ, zero, suc, ◌+◌, ◌*◌, ◌�
 use Rattle.std.proofs.lemmas.Bool.{cases_eq}
 use Rattle.door.specs.States.{State}
 use Rattle.door.specs.Calls.{after, run}
-use Rattle.door.specs.History.{steps, moves, goes-inside, GoesInside, Moves, Rounds}
+use Rattle.door.specs.History.{steps, moves, goes_inside, GoesInside, Moves, Rounds}
 use Rattle.door.specs.declared.call.Call.{Call}
 use Rattle.door.specs.declared.position.Phase.TheVariants as P
 use Rattle.door.proofs.Bools.{and_T}
-use Rattle.door.proofs.machine.Machine.{Machine, is-begin, moved}
-use Rattle.door.proofs.machine.Invariant.{Inv, inv-moved}
+use Rattle.door.proofs.machine.Machine.{Machine, is_begin, moved}
+use Rattle.door.proofs.machine.Invariant.{Inv, inv_moved}
 use Rattle.door.proofs.rounds.Waiting.{Waiting, index_in}
 use Rattle.door.proofs.rounds.Potential.{potential}
-use Rattle.door.proofs.rounds.Falls.{potential-bound}
-use Rattle.door.proofs.rounds.Critical.{Critical, move-waits, critical-falls, critical-stays, critical-exists}
+use Rattle.door.proofs.rounds.Falls.{potential_bound}
+use Rattle.door.proofs.rounds.Critical.{Critical, move_waits, critical_falls, critical_stays, critical_exists}
 use Rattle.door.proofs.machine.Mirror.{Mirror}
-use Rattle.door.proofs.machine.Reached.{Came, stays, goes, came, arm_is, phase-shown, entry-goes, Sound}
+use Rattle.door.proofs.machine.Reached.{Came, stays, goes, came, arm_is, phase_shown, entry_goes, Sound}
 
 module _ (w : ℕ) (sd : Bool) (n : ℕ) (wlo : 1 ≤ w) (whi : w ≤ n) where
   -- w waits with side sd, its potential below B
@@ -23,82 +23,82 @@ module _ (w : ℕ) (sd : Bool) (n : ℕ) (wlo : 1 ≤ w) (whi : w ≤ n) where
     pub wait : Waiting sd (sound.machine.arms w)
     pub low : potential sd sound.machine w + 1 ≤ B
 
-  call-holds : (s : State) (B : ℕ) → Holds s B → (c : Call) → T (goes-inside w s c) ⊎ Holds (after s c) B
-  call-holds s B h c = go (came s h.sound.machine h.sound.mirror h.sound.keeps c)
+  call_holds : (s : State) (B : ℕ) → Holds s B → (c : Call) → T (goes_inside w s c) ⊎ Holds (after s c) B
+  call_holds s B h c = go (came s h.sound.machine h.sound.mirror h.sound.keeps c)
     where
-      go : Came h.sound.machine (after s c) (λ b. moves b s c) (λ b. steps b s c) → T (goes-inside w s c) ⊎ Holds (after s c) B
-      go (stays mir' _ _) = inr (record { sound = record { machine = h.sound.machine; mirror = mir'; keeps = h.sound.keeps; arms-are = h.sound.arms-are }; wait = h.wait; low = h.low })
+      go : Came h.sound.machine (after s c) (λ b. moves b s c) (λ b. steps b s c) → T (goes_inside w s c) ⊎ Holds (after s c) B
+      go (stays mir' _ _) = inr (record { sound = record { machine = h.sound.machine; mirror = mir'; keeps = h.sound.keeps; arms_are = h.sound.arms_are }; wait = h.wait; low = h.low })
       go (goes m i lo hi k mir' _ st) =
           let g : Machine = h.sound.machine in
           let inv : Inv g = h.sound.keeps in
-          let e = h.sound.arms-are in
+          let e = h.sound.arms_are in
           let v = h.wait in
-          ⊎_elim (λ x. inl (entry-goes w sd s g wlo (omega arith) h.sound.mirror h.wait c m i mir' st x))
-          (λ x. inr (record { sound = record { machine = moved g m i; mirror = mir'; keeps = inv-moved g inv m i lo hi; arms-are = e }; wait = x.0; low = let y = x.1 in let z = h.low in omega arith }))
-          (move-waits g inv w sd v.0 v.1 v.2 m i lo hi k)
+          ⊎_elim (λ x. inl (entry_goes w sd s g wlo (omega arith) h.sound.mirror h.wait c m i mir' st x))
+          (λ x. inr (record { sound = record { machine = moved g m i; mirror = mir'; keeps = inv_moved g inv m i lo hi; arms_are = e }; wait = x.0; low = let y = x.1 in let z = h.low in omega arith }))
+          (move_waits g inv w sd v.0 v.1 v.2 m i lo hi k)
 
   run_holds : (s : State) (B : ℕ) → Holds s B → (cs : List Call) → GoesInside w s cs ⊎ Holds (run s cs) B
   run_holds s B h [] = inr h
-  run_holds s B h (c ∷ cs) = ⊎_elim (λ x. inl (inl x)) (λ x. ⊎_elim (λ y. inl (inr y)) (λ y. inr y) (run_holds (after s c) B x cs)) (call-holds s B h c)
+  run_holds s B h (c ∷ cs) = ⊎_elim (λ x. inl (inl x)) (λ x. ⊎_elim (λ y. inl (inr y)) (λ y. inr y) (run_holds (after s c) B x cs)) (call_holds s B h c)
 
   -- a stretch in which the critical arm b moves
-  round-falls : (b : ℕ) (cs : List Call) (s : State) (B : ℕ) (g : Machine) → Mirror s g → Inv g → g.n ≡ n → Waiting sd (g.arms w) → potential sd g w ≤ B → Critical g w sd b → Moves b s cs
+  round_falls : (b : ℕ) (cs : List Call) (s : State) (B : ℕ) (g : Machine) → Mirror s g → Inv g → g.n ≡ n → Waiting sd (g.arms w) → potential sd g w ≤ B → Critical g w sd b → Moves b s cs
       → GoesInside w s cs ⊎ Holds (run s cs) B
-  round-falls b [] s B g mir inv e wait low crit mv = absurd mv
-  round-falls b (c ∷ cs) s B g mir inv e (j, p, wait) low crit mv =
-      go (came s g mir inv c) (λ g' mir' inv' e' wait' low' crit' mv'. ⊎_elim (λ y. inl (inr y)) (λ y. inr y) (round-falls b cs (after s c) B g' mir' inv' e' wait' low' crit' mv'))
+  round_falls b [] s B g mir inv e wait low crit mv = absurd mv
+  round_falls b (c ∷ cs) s B g mir inv e (j, p, wait) low crit mv =
+      go (came s g mir inv c) (λ g' mir' inv' e' wait' low' crit' mv'. ⊎_elim (λ y. inl (inr y)) (λ y. inr y) (round_falls b cs (after s c) B g' mir' inv' e' wait' low' crit' mv'))
     where
       Goal : Type 0
       Goal = GoesInside w s (c ∷ cs) ⊎ Holds (run s (c ∷ cs)) B
 
       fell : (g' : Machine) → Mirror (after s c) g' → Inv g' → g'.n ≡ n → Waiting sd (g'.arms w) → potential sd g' w + 1 ≤ potential sd g w → Goal
       fell g' mir' inv' e' wait' x = ⊎_elim (λ y. inl (inr y)) (λ y. inr y)
-          (run_holds (after s c) B (record { sound = record { machine = g'; mirror = mir'; keeps = inv'; arms-are = e' }; wait = wait'; low = omega arith }) cs)
+          (run_holds (after s c) B (record { sound = record { machine = g'; mirror = mir'; keeps = inv'; arms_are = e' }; wait = wait'; low = omega arith }) cs)
 
       go : Came g (after s c) (λ b. moves b s c) (λ b. steps b s c)
           → ((g' : Machine) → Mirror (after s c) g' → Inv g' → g'.n ≡ n → Waiting sd (g'.arms w) → potential sd g' w ≤ B → Critical g' w sd b → Moves b (after s c) cs → Goal) → Goal
       go (stays mir' still _) again = ⊎_elim (λ x. absurd (subst T (still b) x)) (λ x. again g mir' inv e (j, p, wait) low crit x) mv
       go (goes m i lo hi k mir' mine st) again =
-          let inv' = inv-moved g inv m i lo hi in
+          let inv' = inv_moved g inv m i lo hi in
           ⊎_elim
-          (λ x. inl (inl (entry-goes w sd s g wlo (omega arith) mir (j, p, wait) c m i mir' st x)))
+          (λ x. inl (inl (entry_goes w sd s g wlo (omega arith) mir (j, p, wait) c m i mir' st x)))
           (λ x. ⊎_elim
           (λ q. fell (moved g m i) mir' inv' e x.0
-          (critical-falls g inv w sd j p wait m i lo hi k (subst (λ y. Critical g w sd y) (sym q) crit)))
-          (λ ne. ⊎_elim (λ y. absurd (ne (eqb→eq i b (and_T (not (is-begin m)) (eqb i b) (subst T (mine b) y)).1)))
+          (critical_falls g inv w sd j p wait m i lo hi k (subst (λ y. Critical g w sd y) (sym q) crit)))
+          (λ ne. ⊎_elim (λ y. absurd (ne (eqb→eq i b (and_T (not (is_begin m)) (eqb i b) (subst T (mine b) y)).1)))
           (λ y. ⊎_elim (λ z. fell (moved g m i) mir' inv' e x.0 z)
           (λ z. again (moved g m i) mir' inv' e x.0 (let l = x.1 in omega arith) z y)
-          (critical-stays g inv w sd j p wait m i lo hi b ne crit x.0 x.1))
+          (critical_stays g inv w sd j p wait m i lo hi b ne crit x.0 x.1))
           mv)
           (cases_eq i b))
-          (move-waits g inv w sd j p wait m i lo hi k)
+          (move_waits g inv w sd j p wait m i lo hi k)
 
   goes_left : (r rest : List Call) (s : State) → GoesInside w s r → GoesInside w s (r ++ rest)
   goes_left [] rest s h = absurd h
   goes_left (c ∷ r) rest s h = ⊎_elim (λ x. inl x) (λ x. inr (goes_left r rest (after s c) x)) h
 
-  goes-right : (r rest : List Call) (s : State) → GoesInside w (run s r) rest → GoesInside w s (r ++ rest)
-  goes-right [] rest s h = h
-  goes-right (c ∷ r) rest s h = inr (goes-right r rest (after s c) h)
+  goes_right : (r rest : List Call) (s : State) → GoesInside w (run s r) rest → GoesInside w s (r ++ rest)
+  goes_right [] rest s h = h
+  goes_right (c ∷ r) rest s h = inr (goes_right r rest (after s c) h)
 
-  rounds-end : (k : ℕ) (s : State) (cs : List Call) → Holds s k → Rounds k s cs → GoesInside w s cs
-  rounds-end zero s cs h rs = absurd (let x = h.low in omega arith)
-  rounds-end (suc k) s cs h (r, rest, q, round, rs) =
+  rounds_end : (k : ℕ) (s : State) (cs : List Call) → Holds s k → Rounds k s cs → GoesInside w s cs
+  rounds_end zero s cs h rs = absurd (let x = h.low in omega arith)
+  rounds_end (suc k) s cs h (r, rest, q, round, rs) =
       let g : Machine = h.sound.machine in
       let mir : Mirror s g = h.sound.mirror in
       let inv : Inv g = h.sound.keeps in
       let v = h.wait in
-      let x = critical-exists g inv w sd v.0 v.1 v.2 in
+      let x = critical_exists g inv w sd v.0 v.1 v.2 in
       let hi : x.0 ≤ s.n = let z = mir.size in let y = x.2 in omega arith in
-      let mv = round x.0 (arm_is s x.0 x.1 hi) (subst (λ y. T (not y)) (sym (phase-shown s g mir P.I x.0 x.1 x.2)) x.3) in
+      let mv = round x.0 (arm_is s x.0 x.1 hi) (subst (λ y. T (not y)) (sym (phase_shown s g mir P.I x.0 x.1 x.2)) x.3) in
       subst (λ y. GoesInside w s y) (sym q)
-      (⊎_elim (goes_left r rest s) (λ h'. goes-right r rest s (rounds-end k (run s r) rest h' rs))
-      (round-falls x.0 r s k g mir inv h.sound.arms-are v (let y = h.low in omega arith) x.4 mv))
+      (⊎_elim (goes_left r rest s) (λ h'. goes_right r rest s (rounds_end k (run s r) rest h' rs))
+      (round_falls x.0 r s k g mir inv h.sound.arms_are v (let y = h.low in omega arith) x.4 mv))
 
-  pub all-go-inside : (s : State) → (sound : Sound s n) → Waiting sd (sound.machine.arms w) → (further : List Call) → Rounds (50 * n + 10) s further → GoesInside w s further
-  all-go-inside s sound v further rs =
+  pub all_go_inside : (s : State) → (sound : Sound s n) → Waiting sd (sound.machine.arms w) → (further : List Call) → Rounds (50 * n + 10) s further → GoesInside w s further
+  all_go_inside s sound v further rs =
       let g : Machine = sound.machine in
-      let at-index = index_in g sound.keeps w sd v.0 v.1 v.2 in
-      let low = potential-bound g w sd v.0 v.1 v.2 at-index.0 at-index.1 in
-      let e = sound.arms-are in
-      rounds-end (50 * n + 10) s further (record { sound = sound; wait = v; low = omega arith }) rs
+      let at_index = index_in g sound.keeps w sd v.0 v.1 v.2 in
+      let low = potential_bound g w sd v.0 v.1 v.2 at_index.0 at_index.1 in
+      let e = sound.arms_are in
+      rounds_end (50 * n + 10) s further (record { sound = sound; wait = v; low = omega arith }) rs

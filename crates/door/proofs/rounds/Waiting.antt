@@ -4,53 +4,53 @@ use Rattle.std.proofs.lemmas.Bool.{cases_eq}
 use Rattle.door.specs.declared.position.Phase.TheVariants as P
 use Rattle.door.specs.declared.position.Place.{Place}
 use Rattle.door.proofs.Bools.{same_refl, test}
-use Rattle.door.proofs.machine.Machine.{Stance, idle, d1, d2, d3, d4, d5, waits, inside, x1, x2, at, has, choosing, step-waiting, outcome, step-arm, Move, begin, step, admit, leave, is-step, allowed, changed-same, changed-other, Machine, moved}
-use Rattle.door.proofs.machine.Invariant.{Free, Own, Inv, wait-own}
+use Rattle.door.proofs.machine.Machine.{Stance, idle, d1, d2, d3, d4, d5, waits, inside, x1, x2, at, has, choosing, step_waiting, outcome, step_arm, Move, begin, step, admit, leave, is_step, allowed, changed_same, changed_other, Machine, moved}
+use Rattle.door.proofs.machine.Invariant.{Free, Own, Inv, wait_own}
 
 abbrev pub Waiting : Bool → Stance → Type 0
 Waiting s a = (j : ℕ) × (p : Place) × (a ≡ waits s j p)
 
-pub wait-out : (n : ℕ) (β : Bool) (b : Stance) (s : Bool) (j : ℕ) (p : Place) → Waiting s (step-waiting n β b s j p) ⊎ (step-waiting n β b s j p ≡ inside s false)
-wait-out n β b s = outcome (λ r. Waiting s r ⊎ (r ≡ inside s false)) n β b s (λ j p. inl (j, p, refl)) (inr refl)
+pub wait_out : (n : ℕ) (β : Bool) (b : Stance) (s : Bool) (j : ℕ) (p : Place) → Waiting s (step_waiting n β b s j p) ⊎ (step_waiting n β b s j p ≡ inside s false)
+wait_out n β b s = outcome (λ r. Waiting s r ⊎ (r ≡ inside s false)) n β b s (λ j p. inl (j, p, refl)) (inr refl)
 
 -- it may only step
-pub only-steps : (m : Move) (s : Bool) (j : ℕ) (p : Place) → T (allowed m (waits s j p)) → m ≡ step
-only-steps begin s j p h = absurd h
-only-steps step s j p h = refl
-only-steps admit s j p h = absurd h
-only-steps leave s j p h = absurd h
+pub only_steps : (m : Move) (s : Bool) (j : ℕ) (p : Place) → T (allowed m (waits s j p)) → m ≡ step
+only_steps begin s j p h = absurd h
+only_steps step s j p h = refl
+only_steps admit s j p h = absurd h
+only_steps leave s j p h = absurd h
 
 -- what its phase says
-pub phase-waits : (a : Stance) → T (at P.W a) → (s : Bool) × Waiting s a
-phase-waits (idle g) h = absurd h
-phase-waits (d1 g) h = absurd h
-phase-waits (d2 g) h = absurd h
-phase-waits (d3 s g) h = absurd h
-phase-waits (d4 s) h = absurd h
-phase-waits (d5 s) h = absurd h
-phase-waits (waits s j p) h = (s, (j, p, refl))
-phase-waits (inside s o) h = absurd h
-phase-waits (x1 s) h = absurd h
-phase-waits (x2 s) h = absurd h
+pub phase_waits : (a : Stance) → T (at P.W a) → (s : Bool) × Waiting s a
+phase_waits (idle g) h = absurd h
+phase_waits (d1 g) h = absurd h
+phase_waits (d2 g) h = absurd h
+phase_waits (d3 s g) h = absurd h
+phase_waits (d4 s) h = absurd h
+phase_waits (d5 s) h = absurd h
+phase_waits (waits s j p) h = (s, (j, p, refl))
+phase_waits (inside s o) h = absurd h
+phase_waits (x1 s) h = absurd h
+phase_waits (x2 s) h = absurd h
 
-pub not-both : (a : Stance) (s : Bool) → T (has s a) → T (has (not s) a) → ⊥
-not-both a s h k = grind arith
+pub not_both : (a : Stance) (s : Bool) → T (has s a) → T (has (not s) a) → ⊥
+not_both a s h k = grind arith
 
-pub D-awake : (a : Stance) → T (at P.D a) → T (not (at P.I a))
-D-awake a h = grind arith
+pub D_awake : (a : Stance) → T (at P.D a) → T (not (at P.I a))
+D_awake a h = grind arith
 
-pub has-awake : (a : Stance) (t : Bool) → T (has t a) → T (not (at P.I a))
-has-awake a t h = grind arith
+pub has_awake : (a : Stance) (t : Bool) → T (has t a) → T (not (at P.I a))
+has_awake a t h = grind arith
 
-pub choosing-D : (a : Stance) → T (choosing a) → T (at P.D a)
-choosing-D a h = grind arith
+pub choosing_D : (a : Stance) → T (choosing a) → T (at P.D a)
+choosing_D a h = grind arith
 
 -- an arm in its doorway may only step
-pub doorway-steps : (m : Move) (a : Stance) → T (at P.D a) → T (allowed m a) → m ≡ step
-doorway-steps begin a h k = absurd (let z : ⊥ = grind arith in z)
-doorway-steps step a h k = refl
-doorway-steps admit a h k = absurd (let z : ⊥ = grind arith in z)
-doorway-steps leave a h k = absurd (let z : ⊥ = grind arith in z)
+pub doorway_steps : (m : Move) (a : Stance) → T (at P.D a) → T (allowed m a) → m ≡ step
+doorway_steps begin a h k = absurd (let z : ⊥ = grind arith in z)
+doorway_steps step a h k = refl
+doorway_steps admit a h k = absurd (let z : ⊥ = grind arith in z)
+doorway_steps leave a h k = absurd (let z : ⊥ = grind arith in z)
 
 -- a search through the arms
 pub find : (f : ℕ → Bool) (n : ℕ) → ((k : ℕ) × (1 ≤ k) × (k ≤ n) × T (f k)) ⊎ ((k : ℕ) → 1 ≤ k → k ≤ n → T (not (f k)))
@@ -64,40 +64,40 @@ find f (suc n) = ⊎_elim
 
 -- a move by which w goes inside
 abbrev pub Entry : Move → ℕ → ℕ → Machine → Type 0
-Entry m i w g' = (i ≡ w) × T (is-step m) × T (at P.F (g'.arms w))
+Entry m i w g' = (i ≡ w) × T (is_step m) × T (at P.F (g'.arms w))
 
 module _ (g : Machine) (inv : Inv g) (w : ℕ) (s : Bool) (j : ℕ) (p : Place) (e : g.arms w ≡ waits s j p) where
-  pub has-own : T (has s (g.arms w))
-  has-own = subst (λ y. T (has s y)) (sym e) (same_refl s)
+  pub has_own : T (has s (g.arms w))
+  has_own = subst (λ y. T (has s y)) (sym e) (same_refl s)
 
-  own-here : Own g.n g.group g.arms (waits s j p)
-  own-here = subst (Own g.n g.group g.arms) e (inv.own w)
+  own_here : Own g.n g.group g.arms (waits s j p)
+  own_here = subst (Own g.n g.group g.arms) e (inv.own w)
 
   pub index_in : (1 ≤ j) × (j ≤ g.n)
-  index_in = (own-here.0, own-here.1)
+  index_in = (own_here.0, own_here.1)
 
   -- another arm moves
-  pub other-waits : (m : Move) (i : ℕ) → i ≢ w → Waiting s ((moved g m i).arms w)
-  other-waits m i ne = (j, p, changed-other g.arms i _ w (λ q. ne (sym q)) ∙ e)
+  pub other_waits : (m : Move) (i : ℕ) → i ≢ w → Waiting s ((moved g m i).arms w)
+  other_waits m i ne = (j, p, changed_other g.arms i _ w (λ q. ne (sym q)) ∙ e)
 
-  own-result : (moved g step w).arms w ≡ step-waiting g.n g.group (g.arms j) s j p
-  own-result = changed-same g.arms w _ ∙ ap (step-arm g.n g.group g.arms) e
+  own_result : (moved g step w).arms w ≡ step_waiting g.n g.group (g.arms j) s j p
+  own_result = changed_same g.arms w _ ∙ ap (step_arm g.n g.group g.arms) e
 
   -- it steps itself
   pub own_out : Waiting s ((moved g step w).arms w) ⊎ ((moved g step w).arms w ≡ inside s false)
-  own_out = subst (λ y. Waiting s y ⊎ (y ≡ inside s false)) (sym own-result) (wait-out g.n g.group (g.arms j) s j p)
+  own_out = subst (λ y. Waiting s y ⊎ (y ≡ inside s false)) (sym own_result) (wait_out g.n g.group (g.arms j) s j p)
 
   -- the entry rule: it goes inside only while the group differs from its side or no arm has the other side
-  pub own-free : (moved g step w).arms w ≡ inside s false → Free g.group g.arms s
-  own-free q = subst (Own g.n g.group g.arms) (sym own-result ∙ q) (wait-own g.n g.group g.arms inv.range s j p own-here)
+  pub own_free : (moved g step w).arms w ≡ inside s false → Free g.group g.arms s
+  own_free q = subst (Own g.n g.group g.arms) (sym own_result ∙ q) (wait_own g.n g.group g.arms inv.range s j p own_here)
 
   -- any allowed move: w goes inside and was free to, or waits on
-  pub move-out : (m : Move) (i : ℕ) → T (allowed m (g.arms i)) → (Entry m i w (moved g m i) × Free g.group g.arms s) ⊎ Waiting s ((moved g m i).arms w)
-  move-out m i k = ⊎_elim (λ z. mine m i z k) (λ ne. inr (other-waits m i ne)) (cases_eq i w)
+  pub move_out : (m : Move) (i : ℕ) → T (allowed m (g.arms i)) → (Entry m i w (moved g m i) × Free g.group g.arms s) ⊎ Waiting s ((moved g m i).arms w)
+  move_out m i k = ⊎_elim (λ z. mine m i z k) (λ ne. inr (other_waits m i ne)) (cases_eq i w)
     where
       mine : (m : Move) (i : ℕ) → i ≡ w → T (allowed m (g.arms i)) → (Entry m i w (moved g m i) × Free g.group g.arms s) ⊎ Waiting s ((moved g m i).arms w)
       mine m i z k =
           let k' : T (allowed m (waits s j p)) = subst (λ y. T (allowed m y)) e (subst (λ y. T (allowed m (g.arms y))) z k) in
-          subst (λ m'. (Entry m' i w (moved g m' i) × Free g.group g.arms s) ⊎ Waiting s ((moved g m' i).arms w)) (sym (only-steps m s j p k'))
+          subst (λ m'. (Entry m' i w (moved g m' i) × Free g.group g.arms s) ⊎ Waiting s ((moved g m' i).arms w)) (sym (only_steps m s j p k'))
           (subst (λ i'. (Entry step i' w (moved g step i') × Free g.group g.arms s) ⊎ Waiting s ((moved g step i').arms w)) (sym z)
-          (⊎_elim (λ a. inr a) (λ a. inl ((refl, tt, subst (λ y. T (at P.F y)) (sym a) tt), own-free a)) own_out))
+          (⊎_elim (λ a. inr a) (λ a. inl ((refl, tt, subst (λ y. T (at P.F y)) (sym a) tt), own_free a)) own_out))

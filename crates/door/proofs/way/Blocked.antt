@@ -2,23 +2,23 @@
 use Rattle.std.proofs.Common.{◌≡◌, ℕ, zero, suc, ◌+◌, ◌*◌, ◌≤◌, Bool, true, false, cond, not, ◌&&◌, T, eqb, ◌≢◌, List, [], ◌∷◌, None, sym, refl, ap, ◌∙◌, subst, ⊎_elim, arith, eqb→eq}
 use lib.Dec.{eqb_refl}
 use Rattle.std.proofs.lemmas.Bool.{cases_eq}
-use Rattle.door.specs.Positions.{phase-of}
-use Rattle.door.specs.Tallies.{same-phase}
-use Rattle.door.specs.States.{State, is-arm, phase-at}
-use Rattle.door.specs.Calls.{refusal-of, step-refusal, after}
-use Rattle.door.specs.History.{no-refusal, accepted, is-in, steps, moves, goes-inside, GoesInside, steps-in, NoOtherInDoorway, RightOfWay}
+use Rattle.door.specs.Positions.{phase_of}
+use Rattle.door.specs.Tallies.{same_phase}
+use Rattle.door.specs.States.{State, is_arm, phase_at}
+use Rattle.door.specs.Calls.{refusal_of, step_refusal, after}
+use Rattle.door.specs.History.{no_refusal, accepted, is_in, steps, moves, goes_inside, GoesInside, steps_in, NoOtherInDoorway, RightOfWay}
 use Rattle.door.specs.declared.call.Call.{Call}
 use Rattle.door.specs.declared.call.Call.TheVariants.{Step}
 use Rattle.door.specs.declared.position.Phase.{Phase}
 use Rattle.door.specs.declared.position.Phase.TheVariants as P
-use Rattle.door.proofs.Bools.{same, same-sym, opposite, clash, none_of, and_T, T_and, by, cond-on, is_false, ne_test, test-ne}
-use Rattle.door.proofs.machine.Machine.{Stance, idle, d1, d2, d3, d4, d5, waits, inside, x1, x2, at, has, step-arm, turn_step, Move, step, is-step, allowed, may-step, changed-same, changed-other, Machine, moved}
-use Rattle.door.proofs.machine.Invariant.{Inv, inv-moved}
-use Rattle.door.proofs.rounds.Waiting.{Waiting, only-steps, doorway-steps, not-both, D-awake, find, has-own, other-waits, own_out, own-free}
-use Rattle.door.proofs.rounds.Potential.{total, total-drop, mask-le, mask-off}
+use Rattle.door.proofs.Bools.{same, same_sym, opposite, clash, none_of, and_T, T_and, by, cond_on, is_false, ne_test, test_ne}
+use Rattle.door.proofs.machine.Machine.{Stance, idle, d1, d2, d3, d4, d5, waits, inside, x1, x2, at, has, step_arm, turn_step, Move, step, is_step, allowed, may_step, changed_same, changed_other, Machine, moved}
+use Rattle.door.proofs.machine.Invariant.{Inv, inv_moved}
+use Rattle.door.proofs.rounds.Waiting.{Waiting, only_steps, doorway_steps, not_both, D_awake, find, has_own, other_waits, own_out, own_free}
+use Rattle.door.proofs.rounds.Potential.{total, total_drop, mask_le, mask_off}
 use Rattle.door.proofs.machine.Mirror.{Mirror}
 use Rattle.door.proofs.Accepted.{arm_in}
-use Rattle.door.proofs.machine.Reached.{Came, stays, goes, came, arm_is, phase-shown, Sound}
+use Rattle.door.proofs.machine.Reached.{Came, stays, goes, came, arm_is, phase_shown, Sound}
 use Rattle.door.proofs.way.HasWay.{none_more}
 
 -- how many steps of its doorway an arm has before it
@@ -38,99 +38,99 @@ ahead (x2 s) = 0
 abbrev Passes : Bool → Stance → Stance → Bool → Type 0
 Passes β a a' β' = (ahead a' + 1 ≤ ahead a) × ((t : Bool) → T (has t a) → T (has t a')) × (β' ≡ β)
 
-doorway-passes : (n : ℕ) (β : Bool) (arms : ℕ → Stance) (a : Stance) → T (at P.D a) → Passes β a (step-arm n β arms a) (turn_step β a)
-doorway-passes n β arms (idle g) h = absurd h
-doorway-passes n β arms (d1 g) h = (omega arith, (λ t k. absurd k), refl)
-doorway-passes n β arms (d2 g) h = (omega arith, (λ t k. absurd k), refl)
-doorway-passes n β arms (d3 s g) h = (omega arith, (λ t k. k), refl)
-doorway-passes n β arms (d4 s) h = (omega arith, (λ t k. k), refl)
-doorway-passes n β arms (d5 s) h = (omega arith, (λ t k. k), refl)
-doorway-passes n β arms (waits s j p) h = absurd h
-doorway-passes n β arms (inside s o) h = absurd h
-doorway-passes n β arms (x1 s) h = absurd h
-doorway-passes n β arms (x2 s) h = absurd h
+doorway_passes : (n : ℕ) (β : Bool) (arms : ℕ → Stance) (a : Stance) → T (at P.D a) → Passes β a (step_arm n β arms a) (turn_step β a)
+doorway_passes n β arms (idle g) h = absurd h
+doorway_passes n β arms (d1 g) h = (omega arith, (λ t k. absurd k), refl)
+doorway_passes n β arms (d2 g) h = (omega arith, (λ t k. absurd k), refl)
+doorway_passes n β arms (d3 s g) h = (omega arith, (λ t k. k), refl)
+doorway_passes n β arms (d4 s) h = (omega arith, (λ t k. k), refl)
+doorway_passes n β arms (d5 s) h = (omega arith, (λ t k. k), refl)
+doorway_passes n β arms (waits s j p) h = absurd h
+doorway_passes n β arms (inside s o) h = absurd h
+doorway_passes n β arms (x1 s) h = absurd h
+doorway_passes n β arms (x2 s) h = absurd h
 
-doorway-may : (a : Stance) → T (at P.D a) → T (may-step a)
-doorway-may a h = grind arith
+doorway_may : (a : Stance) → T (at P.D a) → T (may_step a)
+doorway_may a h = grind arith
 
 -- a step that the machine allows is accepted
-step-free : (p : Phase) → T (not (same-phase p P.I) && not (same-phase p P.F)) → step-refusal p ≡ None
-step-free P.I h = absurd h
-step-free P.D h = refl
-step-free P.W h = refl
-step-free P.F h = absurd h
-step-free P.X h = refl
+step_free : (p : Phase) → T (not (same_phase p P.I) && not (same_phase p P.F)) → step_refusal p ≡ None
+step_free P.I h = absurd h
+step_free P.D h = refl
+step_free P.W h = refl
+step_free P.F h = absurd h
+step_free P.X h = refl
 
-step-accepted : (s : State) (g : Machine) → Mirror s g → (i : ℕ) → 1 ≤ i → i ≤ s.n → T (may-step (g.arms i)) → T (accepted s (Step i))
-step-accepted s g mir i lo hi k =
-    let e : step-refusal (phase-at s i) ≡ None = step-free (phase-at s i) (subst (λ y. T (not (same-phase (phase-of y) P.I) && not (same-phase (phase-of y) P.F))) (sym (mir.shows i lo hi).stands) k) in
-    let r : refusal-of s (Step i) ≡ None = cond-on (is-arm s i) (step-refusal (phase-at s i)) _ (arm_is s i lo hi) ∙ e in
-    subst (λ x. T (no-refusal x)) (sym r) tt
+step_accepted : (s : State) (g : Machine) → Mirror s g → (i : ℕ) → 1 ≤ i → i ≤ s.n → T (may_step (g.arms i)) → T (accepted s (Step i))
+step_accepted s g mir i lo hi k =
+    let e : step_refusal (phase_at s i) ≡ None = step_free (phase_at s i) (subst (λ y. T (not (same_phase (phase_of y) P.I) && not (same_phase (phase_of y) P.F))) (sym (mir.shows i lo hi).stands) k) in
+    let r : refusal_of s (Step i) ≡ None = cond_on (is_arm s i) (step_refusal (phase_at s i)) _ (arm_is s i lo hi) ∙ e in
+    subst (λ x. T (no_refusal x)) (sym r) tt
 
-step-mirrored : (s : State) (g : Machine) → Mirror s g → Inv g → (i : ℕ) → 1 ≤ i → i ≤ s.n → T (may-step (g.arms i)) → ((m : Move) → T (allowed m (g.arms i)) → m ≡ step) → Mirror (after s (Step i)) (moved g step i)
-step-mirrored s g mir inv i lo hi k only = go (came s g mir inv (Step i))
+step_mirrored : (s : State) (g : Machine) → Mirror s g → Inv g → (i : ℕ) → 1 ≤ i → i ≤ s.n → T (may_step (g.arms i)) → ((m : Move) → T (allowed m (g.arms i)) → m ≡ step) → Mirror (after s (Step i)) (moved g step i)
+step_mirrored s g mir inv i lo hi k only = go (came s g mir inv (Step i))
   where
     it : T (steps i s (Step i))
-    it = T_and (accepted s (Step i)) (eqb i i) (step-accepted s g mir i lo hi k) (eqb_refl i)
+    it = T_and (accepted s (Step i)) (eqb i i) (step_accepted s g mir i lo hi k) (eqb_refl i)
 
     go : Came g (after s (Step i)) (λ b. moves b s (Step i)) (λ b. steps b s (Step i)) → Mirror (after s (Step i)) (moved g step i)
     go (stays mir' _ st) = absurd (subst T (st i) it)
     go (goes m l llo lhi k' mir' _ st) =
-        let q : l ≡ i = eqb→eq l i (and_T (is-step m) (eqb l i) (subst T (st i) it)).1 in
+        let q : l ≡ i = eqb→eq l i (and_T (is_step m) (eqb l i) (subst T (st i) it)).1 in
         let r : m ≡ step = only m (subst (λ y. T (allowed m (g.arms y))) q k') in
         subst (λ y. Mirror (after s (Step i)) (moved g step y)) q (subst (λ y. Mirror (after s (Step i)) (moved g y l)) r mir')
 
-one-step : (b : Bool) → T b → ◌≡◌ {A = ℕ} (cond b 1 0) 1
-one-step true h = refl
-one-step false h = absurd h
+one_step : (b : Bool) → T b → ◌≡◌ {A = ℕ} (cond b 1 0) 1
+one_step true h = refl
+one_step false h = absurd h
 
 module _ (u : ℕ) (sd : Bool) (n : ℕ) (ulo : 1 ≤ u) (uhi : u ≤ n) (k : ℕ) where
   -- u waits, the group is its side, and arm k has the other side
   record Barred (s : State) (g : Machine) : Type 0 where
     pub mirror : Mirror s g
     pub keeps : Inv g
-    pub arms-are : g.n ≡ n
+    pub arms_are : g.n ≡ n
     pub wait : Waiting sd (g.arms u)
-    pub own-group : T (same g.group sd)
+    pub own_group : T (same g.group sd)
     pub foe : T (has (not sd) (g.arms k))
 
   -- m own steps that do not take it inside
   record Vain (m : ℕ) (s : State) : Type 0 where
     pub calls : List Call
-    pub count : steps-in u s calls ≡ m
+    pub count : steps_in u s calls ≡ m
     pub alone : NoOtherInDoorway u s calls
     pub stays_out : GoesInside u s calls → ⊥
 
-  not-inside : (s : State) (g : Machine) → Mirror s g → g.n ≡ n → Waiting sd (g.arms u) → (c : Call) (s₀ : State) → s ≡ after s₀ c → T (goes-inside u s₀ c) → ⊥
-  not-inside s g mir e v c s₀ q t =
-      let x = and_T (is-in P.W s₀ u) (is-in P.F (after s₀ c) u) (and_T (steps u s₀ c) (is-in P.W s₀ u && is-in P.F (after s₀ c) u) t).1 in
-      subst (λ y. T (at P.F y)) v.2 (subst T (phase-shown s g mir P.F u ulo (omega arith)) (subst (λ y. T (is-in P.F y u)) (sym q) x.1))
+  not_inside : (s : State) (g : Machine) → Mirror s g → g.n ≡ n → Waiting sd (g.arms u) → (c : Call) (s₀ : State) → s ≡ after s₀ c → T (goes_inside u s₀ c) → ⊥
+  not_inside s g mir e v c s₀ q t =
+      let x = and_T (is_in P.W s₀ u) (is_in P.F (after s₀ c) u) (and_T (steps u s₀ c) (is_in P.W s₀ u && is_in P.F (after s₀ c) u) t).1 in
+      subst (λ y. T (at P.F y)) v.2 (subst T (phase_shown s g mir P.F u ulo (omega arith)) (subst (λ y. T (is_in P.F y u)) (sym q) x.1))
 
-  own-steps : (m : ℕ) (s : State) (g : Machine) → Barred s g → ((l : ℕ) → l ≢ u → T (at P.D (g.arms l)) → ⊥) → Vain m s
-  own-steps zero s g b calm = record { calls = []; count = refl; alone = tt; stays_out = λ h. h }
-  own-steps (suc m) s g b calm =
+  own_steps : (m : ℕ) (s : State) (g : Machine) → Barred s g → ((l : ℕ) → l ≢ u → T (at P.D (g.arms l)) → ⊥) → Vain m s
+  own_steps zero s g b calm = record { calls = []; count = refl; alone = tt; stays_out = λ h. h }
+  own_steps (suc m) s g b calm =
       let mir = b.mirror in
       let inv = b.keeps in
-      let e = b.arms-are in
+      let e = b.arms_are in
       let v = b.wait in
       let hi : u ≤ s.n = let z = mir.size in omega arith in
-      let may : T (may-step (g.arms u)) = subst (λ y. T (may-step y)) (sym v.2) tt in
+      let may : T (may_step (g.arms u)) = subst (λ y. T (may_step y)) (sym v.2) tt in
       let g' : Machine = moved g step u in
-      let mir' : Mirror (after s (Step u)) g' = step-mirrored s g mir inv u ulo hi may (λ m' k'. only-steps m' sd v.0 v.1 (subst (λ y. T (allowed m' y)) v.2 k')) in
-      let ne : k ≢ u = λ z. not-both (g.arms u) sd (has-own g inv u sd v.0 v.1 v.2) (subst (λ y. T (has (not sd) (g.arms y))) z b.foe) in
+      let mir' : Mirror (after s (Step u)) g' = step_mirrored s g mir inv u ulo hi may (λ m' k'. only_steps m' sd v.0 v.1 (subst (λ y. T (allowed m' y)) v.2 k')) in
+      let ne : k ≢ u = λ z. not_both (g.arms u) sd (has_own g inv u sd v.0 v.1 v.2) (subst (λ y. T (has (not sd) (g.arms y))) z b.foe) in
       let wait' : Waiting sd (g'.arms u) = ⊎_elim (λ x. x)
-      (λ x. absurd (opposite g.group sd b.own-group (same-sym g.group (not sd) (own-free g inv u sd v.0 v.1 v.2 x k b.foe))))
+      (λ x. absurd (opposite g.group sd b.own_group (same_sym g.group (not sd) (own_free g inv u sd v.0 v.1 v.2 x k b.foe))))
       (own_out g inv u sd v.0 v.1 v.2) in
       let barred : Barred (after s (Step u)) g' = record {
         mirror = mir';
-        keeps = inv-moved g inv step u ulo (omega arith);
-        arms-are = e;
+        keeps = inv_moved g inv step u ulo (omega arith);
+        arms_are = e;
         wait = wait';
-        own-group = subst (λ y. T (same y sd)) (sym (ap (turn_step g.group) v.2)) b.own-group;
-        foe = subst (λ y. T (has (not sd) y)) (sym (changed-other g.arms u _ k ne)) b.foe;
+        own_group = subst (λ y. T (same y sd)) (sym (ap (turn_step g.group) v.2)) b.own_group;
+        foe = subst (λ y. T (has (not sd) y)) (sym (changed_other g.arms u _ k ne)) b.foe;
       } in
-      let rest = own-steps m (after s (Step u)) g' barred (λ l lne x. calm l lne (subst (λ y. T (at P.D y)) (changed-other g.arms u _ l lne) x)) in
-      let one = one-step (steps u s (Step u)) (T_and (accepted s (Step u)) (eqb u u) (step-accepted s g mir u ulo hi may) (eqb_refl u)) in
+      let rest = own_steps m (after s (Step u)) g' barred (λ l lne x. calm l lne (subst (λ y. T (at P.D y)) (changed_other g.arms u _ l lne) x)) in
+      let one = one_step (steps u s (Step u)) (T_and (accepted s (Step u)) (eqb u u) (step_accepted s g mir u ulo hi may) (eqb_refl u)) in
       record {
         calls = Step u ∷ rest.calls;
         count = let x = rest.count in omega arith;
@@ -138,63 +138,63 @@ module _ (u : ℕ) (sd : Bool) (n : ℕ) (ulo : 1 ≤ u) (uhi : u ≤ n) (k : �
           (λ t l larm d.
               let r = arm_in s l larm in
               let lhi : l ≤ g.n = let z = mir.size in let y = r.1 in omega arith in
-              ⊎_elim (λ q. q) (λ lne. absurd (calm l lne (subst T (phase-shown s g mir P.D l r.0 lhi) d))) (cases_eq l u)),
+              ⊎_elim (λ q. q) (λ lne. absurd (calm l lne (subst T (phase_shown s g mir P.D l r.0 lhi) d))) (cases_eq l u)),
           rest.alone,
         );
-        stays_out = λ x. ⊎_elim (not-inside (after s (Step u)) g' mir' e wait' (Step u) s refl) rest.stays_out x;
+        stays_out = λ x. ⊎_elim (not_inside (after s (Step u)) g' mir' e wait' (Step u) s refl) rest.stays_out x;
       }
 
   -- all doorway steps before the other arms
-  abbrev all-ahead : Machine → ℕ
-  all-ahead g = total (λ l. cond (eqb l u) 0 (ahead (g.arms l))) g.n
+  abbrev all_ahead : Machine → ℕ
+  all_ahead g = total (λ l. cond (eqb l u) 0 (ahead (g.arms l))) g.n
 
-  end-doorways : (B m : ℕ) (s : State) (g : Machine) → Barred s g → all-ahead g + 1 ≤ B → Vain m s
-  end-doorways zero m s g b low = absurd (omega arith)
-  end-doorways (suc B) m s g b low = ⊎_elim
+  end_doorways : (B m : ℕ) (s : State) (g : Machine) → Barred s g → all_ahead g + 1 ≤ B → Vain m s
+  end_doorways zero m s g b low = absurd (omega arith)
+  end_doorways (suc B) m s g b low = ⊎_elim
       (λ x.
       let mir = b.mirror in
       let inv = b.keeps in
-      let e = b.arms-are in
+      let e = b.arms_are in
       let v = b.wait in
       let l : ℕ = x.0 in
       let y = and_T (not (eqb l u)) (at P.D (g.arms l)) x.3 in
       let lne : l ≢ u = ne_test l u y.0 in
       let hi : l ≤ s.n = let z = mir.size in let z' = x.2 in omega arith in
       let g' : Machine = moved g step l in
-      let a' : Stance = step-arm g.n g.group g.arms (g.arms l) in
-      let passes = doorway-passes g.n g.group g.arms (g.arms l) y.1 in
-      let mir' : Mirror (after s (Step l)) g' = step-mirrored s g mir inv l x.1 hi (doorway-may (g.arms l) y.1) (λ m' k'. doorway-steps m' (g.arms l) y.1 k') in
-      let wait' : Waiting sd (g'.arms u) = other-waits g inv u sd v.0 v.1 v.2 step l lne in
+      let a' : Stance = step_arm g.n g.group g.arms (g.arms l) in
+      let passes = doorway_passes g.n g.group g.arms (g.arms l) y.1 in
+      let mir' : Mirror (after s (Step l)) g' = step_mirrored s g mir inv l x.1 hi (doorway_may (g.arms l) y.1) (λ m' k'. doorway_steps m' (g.arms l) y.1 k') in
+      let wait' : Waiting sd (g'.arms u) = other_waits g inv u sd v.0 v.1 v.2 step l lne in
       let barred : Barred (after s (Step l)) g' = record {
         mirror = mir';
-        keeps = inv-moved g inv step l x.1 x.2;
-        arms-are = e;
+        keeps = inv_moved g inv step l x.1 x.2;
+        arms_are = e;
         wait = wait';
-        own-group = subst (λ z. T (same z sd)) (sym passes.2) b.own-group;
+        own_group = subst (λ z. T (same z sd)) (sym passes.2) b.own_group;
         foe = by (λ z. T (has (not sd) z)) (eqb k l) a' (g.arms k) (λ t. passes.1 (not sd) (subst (λ z. T (has (not sd) (g.arms z))) (eqb→eq k l t) b.foe)) (λ t. b.foe);
       } in
-      let drop : all-ahead g' + 1 ≤ all-ahead g = total-drop (λ z. cond (eqb z u) 0 (ahead (g'.arms z))) (λ z. cond (eqb z u) 0 (ahead (g.arms z))) g.n 1 l
+      let drop : all_ahead g' + 1 ≤ all_ahead g = total_drop (λ z. cond (eqb z u) 0 (ahead (g'.arms z))) (λ z. cond (eqb z u) 0 (ahead (g.arms z))) g.n 1 l
       (λ z. by (λ c. cond (eqb z u) 0 (ahead c) ≤ cond (eqb z u) 0 (ahead (g.arms z))) (eqb z l) a' (g.arms z)
-      (λ t. mask-le (eqb z u) _ _ (subst (λ c. ahead a' ≤ ahead (g.arms c)) (sym (eqb→eq z l t)) (let f = passes.0 in omega arith)))
+      (λ t. mask_le (eqb z u) _ _ (subst (λ c. ahead a' ≤ ahead (g.arms c)) (sym (eqb→eq z l t)) (let f = passes.0 in omega arith)))
       (λ t. omega arith))
       x.1 x.2
-      (mask-off (eqb l u) _ _ 1 y.0 (subst (λ c. ahead c + 1 ≤ ahead (g.arms l)) (sym (changed-same g.arms l a')) passes.0)) in
-      let rest = end-doorways B m (after s (Step l)) g' barred (omega arith) in
+      (mask_off (eqb l u) _ _ 1 y.0 (subst (λ c. ahead c + 1 ≤ ahead (g.arms l)) (sym (changed_same g.arms l a')) passes.0)) in
+      let rest = end_doorways B m (after s (Step l)) g' barred (omega arith) in
       let not_own : T (steps u s (Step l)) → ⊥ = λ t. lne (eqb→eq l u (and_T (accepted s (Step l)) (eqb l u) t).1) in
       let zero_more = none_more (steps u s (Step l)) (is_false (steps u s (Step l)) (none_of (steps u s (Step l)) not_own)) in
       record {
         calls = Step l ∷ rest.calls;
         count = let z = rest.count in omega arith;
         alone = ((λ t. absurd (not_own t)), rest.alone);
-        stays_out = λ z. ⊎_elim (not-inside (after s (Step l)) g' mir' e wait' (Step l) s refl) rest.stays_out z;
+        stays_out = λ z. ⊎_elim (not_inside (after s (Step l)) g' mir' e wait' (Step l) s refl) rest.stays_out z;
       })
-      (λ none_in. own-steps m s g b (λ l lne d.
-      let r = b.keeps.awake l (D-awake (g.arms l) d) in
-      clash (not (eqb l u) && at P.D (g.arms l)) (T_and (not (eqb l u)) (at P.D (g.arms l)) (test-ne l u lne) d) (none_in l r.0 r.1)))
+      (λ none_in. own_steps m s g b (λ l lne d.
+      let r = b.keeps.awake l (D_awake (g.arms l) d) in
+      clash (not (eqb l u) && at P.D (g.arms l)) (T_and (not (eqb l u)) (at P.D (g.arms l)) (test_ne l u lne) d) (none_in l r.0 r.1)))
       (find (λ l. not (eqb l u) && at P.D (g.arms l)) g.n)
 
   pub no_way : (s : State) (sound : Sound s n) → Waiting sd (sound.machine.arms u) → T (same sound.machine.group sd) → T (has (not sd) (sound.machine.arms k)) → RightOfWay s u → ⊥
   no_way s sound wait q foe right =
       let g : Machine = sound.machine in
-      let vain = end-doorways (all-ahead g + 1) (8 * s.n) s g (record { mirror = sound.mirror; keeps = sound.keeps; arms-are = sound.arms-are; wait = wait; own-group = q; foe = foe }) (omega arith) in
+      let vain = end_doorways (all_ahead g + 1) (8 * s.n) s g (record { mirror = sound.mirror; keeps = sound.keeps; arms_are = sound.arms_are; wait = wait; own_group = q; foe = foe }) (omega arith) in
       vain.stays_out (right vain.calls vain.count vain.alone)

@@ -4,16 +4,16 @@ use lib.Dec.{eqb_refl}
 use Rattle.std.proofs.lemmas.Bool.{cases_eq}
 use Rattle.door.specs.States.{State}
 use Rattle.door.specs.Calls.{after}
-use Rattle.door.specs.History.{steps, moves, goes-inside, GoesInside, steps-in, NoOtherInDoorway, RightOfWay}
+use Rattle.door.specs.History.{steps, moves, goes_inside, GoesInside, steps_in, NoOtherInDoorway, RightOfWay}
 use Rattle.door.specs.declared.call.Call.{Call}
 use Rattle.door.specs.declared.position.Phase.TheVariants as P
 use Rattle.door.proofs.Bools.{none_of, and_T, is_false}
-use Rattle.door.proofs.machine.Machine.{Machine, Move, step, is-step, at, allowed, moved}
-use Rattle.door.proofs.machine.Invariant.{Free, Inv, inv-moved}
-use Rattle.door.proofs.rounds.Waiting.{Waiting, only-steps, index_in, move-out}
-use Rattle.door.proofs.way.Rank.{needs, free-after, needs-other, needs-mine, needs-some, needs-bound}
+use Rattle.door.proofs.machine.Machine.{Machine, Move, step, is_step, at, allowed, moved}
+use Rattle.door.proofs.machine.Invariant.{Free, Inv, inv_moved}
+use Rattle.door.proofs.rounds.Waiting.{Waiting, only_steps, index_in, move_out}
+use Rattle.door.proofs.way.Rank.{needs, free_after, needs_other, needs_mine, needs_some, needs_bound}
 use Rattle.door.proofs.machine.Mirror.{Mirror}
-use Rattle.door.proofs.machine.Reached.{Came, stays, goes, came, arm_is, phase-shown, entry-goes, Sound}
+use Rattle.door.proofs.machine.Reached.{Came, stays, goes, came, arm_is, phase_shown, entry_goes, Sound}
 
 one_more : (b : Bool) → cond b 1 0 ≤ 1
 one_more b = grind arith
@@ -23,52 +23,52 @@ none_more b e = ap (λ x. cond x 1 0) e
 
 module _ (w : ℕ) (sd : Bool) (n : ℕ) (wlo : 1 ≤ w) (whi : w ≤ n) where
   goes_on : (cs : List Call) (s : State) (g : Machine) → Mirror s g → Inv g → g.n ≡ n → Waiting sd (g.arms w) → Free g.group g.arms sd
-      → needs g sd w ≤ steps-in w s cs → NoOtherInDoorway w s cs → GoesInside w s cs
-  goes_on [] s g mir inv e (j, p, wait) free enough alone = absurd (let x = needs-some g inv w sd j p wait free in omega arith)
+      → needs g sd w ≤ steps_in w s cs → NoOtherInDoorway w s cs → GoesInside w s cs
+  goes_on [] s g mir inv e (j, p, wait) free enough alone = absurd (let x = needs_some g inv w sd j p wait free in omega arith)
   goes_on (c ∷ cs) s g mir inv e (j, p, wait) free enough (here, alone) =
       go (came s g mir inv c) (λ g' mir' inv' e' wait' free' enough'. inr (goes_on cs (after s c) g' mir' inv' e' wait' free' enough' alone))
     where
       Goal : Type 0
-      Goal = T (goes-inside w s c) ⊎ GoesInside w (after s c) cs
+      Goal = T (goes_inside w s c) ⊎ GoesInside w (after s c) cs
 
       -- the arm at its index is not in its doorway at its own step
       calm : T (steps w s c) → T (not (at P.D (g.arms j)))
       calm t = none_of (at P.D (g.arms j)) (λ h.
           let r = index_in g inv w sd j p wait in
           let hi : j ≤ s.n = let z = mir.size in let y = r.1 in omega arith in
-          let q : j ≡ w = here t j (arm_is s j r.0 hi) (subst T (sym (phase-shown s g mir P.D j r.0 r.1)) h) in
+          let q : j ≡ w = here t j (arm_is s j r.0 hi) (subst T (sym (phase_shown s g mir P.D j r.0 r.1)) h) in
           subst (λ y. T (at P.D y)) (ap g.arms q ∙ wait) h)
 
-      fewer : (m : Move) (i : ℕ) → T (allowed m (g.arms i)) → steps w s c ≡ (is-step m && eqb i w) → needs (moved g m i) sd w ≤ steps-in w (after s c) cs
+      fewer : (m : Move) (i : ℕ) → T (allowed m (g.arms i)) → steps w s c ≡ (is_step m && eqb i w) → needs (moved g m i) sd w ≤ steps_in w (after s c) cs
       fewer m i k st = ⊎_elim
           (λ q.
-          let r : m ≡ step = only-steps m sd j p (subst (λ y. T (allowed m y)) wait (subst (λ y. T (allowed m (g.arms y))) q k)) in
+          let r : m ≡ step = only_steps m sd j p (subst (λ y. T (allowed m y)) wait (subst (λ y. T (allowed m (g.arms y))) q k)) in
           let b = index_in g inv w sd j p wait in
           let o = one_more (steps w s c) in
-          let t : T (steps w s c) = subst T (sym st) (subst (λ y. T (is-step y && eqb i w)) (sym r) (subst (λ y. T (eqb i y)) q (eqb_refl i))) in
-          let y = needs-mine g inv w sd j p wait free b.0 b.1 (calm t) in
-          subst (λ z. needs (moved g z i) sd w ≤ steps-in w (after s c) cs) (sym r) (subst (λ z. needs (moved g step z) sd w ≤ steps-in w (after s c) cs) (sym q) (omega arith)))
+          let t : T (steps w s c) = subst T (sym st) (subst (λ y. T (is_step y && eqb i w)) (sym r) (subst (λ y. T (eqb i y)) q (eqb_refl i))) in
+          let y = needs_mine g inv w sd j p wait free b.0 b.1 (calm t) in
+          subst (λ z. needs (moved g z i) sd w ≤ steps_in w (after s c) cs) (sym r) (subst (λ z. needs (moved g step z) sd w ≤ steps_in w (after s c) cs) (sym q) (omega arith)))
           (λ ne.
-          let z = none_more (steps w s c) (st ∙ is_false (is-step m && eqb i w) (none_of _ (λ t. ne (eqb→eq i w (and_T (is-step m) (eqb i w) t).1)))) in
-          let y = needs-other g inv w sd j p wait free m i ne in
+          let z = none_more (steps w s c) (st ∙ is_false (is_step m && eqb i w) (none_of _ (λ t. ne (eqb→eq i w (and_T (is_step m) (eqb i w) t).1)))) in
+          let y = needs_other g inv w sd j p wait free m i ne in
           omega arith)
           (cases_eq i w)
 
       go : Came g (after s c) (λ b. moves b s c) (λ b. steps b s c)
-          → ((g' : Machine) → Mirror (after s c) g' → Inv g' → g'.n ≡ n → Waiting sd (g'.arms w) → Free g'.group g'.arms sd → needs g' sd w ≤ steps-in w (after s c) cs → Goal) → Goal
+          → ((g' : Machine) → Mirror (after s c) g' → Inv g' → g'.n ≡ n → Waiting sd (g'.arms w) → Free g'.group g'.arms sd → needs g' sd w ≤ steps_in w (after s c) cs → Goal) → Goal
       go (stays mir' _ st) again =
           let z = none_more (steps w s c) (st w) in
           again g mir' inv e (j, p, wait) free (omega arith)
       go (goes m i lo hi k mir' _ st) again = ⊎_elim
-          (λ x. inl (entry-goes w sd s g wlo (omega arith) mir (j, p, wait) c m i mir' st x.0))
-          (λ x. again (moved g m i) mir' (inv-moved g inv m i lo hi) e x (free-after g inv w sd j p wait free m i) (fewer m i k (st w)))
-          (move-out g inv w sd j p wait m i k)
+          (λ x. inl (entry_goes w sd s g wlo (omega arith) mir (j, p, wait) c m i mir' st x.0))
+          (λ x. again (moved g m i) mir' (inv_moved g inv m i lo hi) e x (free_after g inv w sd j p wait free m i) (fewer m i k (st w)))
+          (move_out g inv w sd j p wait m i k)
 
-  pub free-way : (s : State) (sound : Sound s n) → Waiting sd (sound.machine.arms w) → Free sound.machine.group sound.machine.arms sd → RightOfWay s w
-  free-way s sound v free cs count alone =
+  pub free_way : (s : State) (sound : Sound s n) → Waiting sd (sound.machine.arms w) → Free sound.machine.group sound.machine.arms sd → RightOfWay s w
+  free_way s sound v free cs count alone =
       let g : Machine = sound.machine in
-      let e = sound.arms-are in
+      let e = sound.arms_are in
       let z = sound.mirror.size in
       let b = index_in g sound.keeps w sd v.0 v.1 v.2 in
-      let x = needs-bound g sound.keeps w sd v.0 v.1 v.2 free wlo (omega arith) b.0 b.1 in
+      let x = needs_bound g sound.keeps w sd v.0 v.1 v.2 free wlo (omega arith) b.0 b.1 in
       goes_on cs s g sound.mirror sound.keeps e v free (omega arith) alone

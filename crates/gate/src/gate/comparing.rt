@@ -1,7 +1,7 @@
 ghost use Rattle.std.specs.Prelude.{◌≡◌, ℕ, ◌<◌, ◌≤◌, T, slice_index, slice_index_or};
-ghost use Rattle.door.specs.Limits.{arm-limit};
+ghost use Rattle.door.specs.Limits.{arm_limit};
 ghost use Rattle.gate.specs.Alike.{Alike};
-ghost use Rattle.door.specs.Positions.{phase-of, letter-of};
+ghost use Rattle.door.specs.Positions.{phase_of, letter_of};
 ghost use Rattle.door.specs.Arms.{no_arm};
 ghost use Rattle.gate.specs.Whole.{whole};
 
@@ -26,9 +26,9 @@ fn same_registers<B: Bank, C: Bank>(a: &B, b: &C, count: usize) -> bool
 
 // Whether the first records of two tables have the same phase letters.
 fn same_phases(a: &[Arm; ARM_LIMIT], b: &[Arm; ARM_LIMIT], count: usize) -> bool
-    requires { count ≤ arm-limit }
-    ensures yes { T result → (k : ℕ) → k < count → letter-of (phase-of (slice_index_or a.now k no_arm).position) ≡ letter-of (phase-of (slice_index_or b.now k no_arm).position) }
-    ensures only { ((k : ℕ) → k < count → letter-of (phase-of (slice_index_or a.now k no_arm).position) ≡ letter-of (phase-of (slice_index_or b.now k no_arm).position)) → T result }
+    requires { count ≤ arm_limit }
+    ensures yes { T result → (k : ℕ) → k < count → letter_of (phase_of (slice_index_or a.now k no_arm).position) ≡ letter_of (phase_of (slice_index_or b.now k no_arm).position) }
+    ensures only { ((k : ℕ) → k < count → letter_of (phase_of (slice_index_or a.now k no_arm).position) ≡ letter_of (phase_of (slice_index_or b.now k no_arm).position)) → T result }
 {
     for k in 0..count {
         let x = a[k];

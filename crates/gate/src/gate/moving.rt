@@ -1,10 +1,10 @@
 ghost use Rattle.std.specs.Prelude.{◌≡◌, ◌≤◌};
 ghost use Rattle.door.specs.declared.position.Phase.TheVariants as P;
 ghost use Rattle.door.specs.declared.call.Call.TheVariants.{Begin, Step};
-ghost use Rattle.door.specs.Accesses.{One-access};
-ghost use Rattle.gate.specs.Answers.{step-answer};
-ghost use Rattle.door.specs.Calls.{answered, refusal-of, after, arm-after, stepped};
-ghost use Rattle.door.specs.Positions.{phase-of};
+ghost use Rattle.door.specs.Accesses.{OneAccess};
+ghost use Rattle.gate.specs.Answers.{step_answer};
+ghost use Rattle.door.specs.Calls.{answered, refusal_of, after, arm_after, stepped};
+ghost use Rattle.door.specs.Positions.{phase_of};
 ghost use Rattle.gate.specs.Whole.{whole};
 
 use crate::gate::Gate;
@@ -17,7 +17,7 @@ use door::refusal::Refusal;
 impl<B: Bank> Gate<B> {
     // Begins a visit of an idle arm.
     pub fn begin(&mut self, arm: usize) -> Result<Phase, Refusal>
-        ensures answer { result ≡ answered (refusal-of (whole self.old) (Begin arm)) P.D }
+        ensures answer { result ≡ answered (refusal_of (whole self.old) (Begin arm)) P.D }
         ensures after { whole self.new ≡ after (whole self.old) (Begin arm) }
     {
         let record = self.may_begin(arm)?;
@@ -31,9 +31,9 @@ impl<B: Bank> Gate<B> {
 
     // Makes the one access of an arm that is neither idle nor inside.
     pub fn step(&mut self, arm: usize) -> Result<Phase, Refusal>
-        ensures answer { result ≡ step-answer (whole self.old) arm }
+        ensures answer { result ≡ step_answer (whole self.old) arm }
         ensures after { whole self.new ≡ after (whole self.old) (Step arm) }
-        ensures one { One-access (whole self.old) arm (whole self.new) }
+        ensures one { OneAccess (whole self.old) arm (whole self.new) }
     {
         self.may_step(arm)?;
         Ok(self.move_on(arm))
@@ -42,7 +42,7 @@ impl<B: Bank> Gate<B> {
     // The access of an arm and its next position, and the rows that tell of it; answers the phase after it.
     fn move_on(&mut self, arm: usize) -> Phase
         requires { (1 ≤ arm) × (arm ≤ self.old.n) }
-        ensures answer { result ≡ phase-of (arm-after (whole self.old) arm).position }
+        ensures answer { result ≡ phase_of (arm_after (whole self.old) arm).position }
         ensures after { whole self.new ≡ stepped arm (whole self.old) }
     {
         let at = arm - 1;

@@ -1,6 +1,6 @@
 ghost use Rattle.std.specs.Prelude.{◌≡◌};
 ghost use Rattle.door.specs.declared.call.Call.TheVariants.{Admit, Leave};
-ghost use Rattle.gate.specs.Answers.{admit-answer, leave-answer};
+ghost use Rattle.gate.specs.Answers.{admit_answer, leave_answer};
 ghost use Rattle.door.specs.Calls.{after, knows};
 ghost use Rattle.gate.specs.Whole.{whole};
 
@@ -14,7 +14,7 @@ use door::refusal::Refusal;
 impl<B: Bank> Gate<B> {
     // Gives the pass of an arm inside, and marks it as out.
     pub fn admit(&mut self, arm: usize) -> Result<Pass, Refusal>
-        ensures answer { result ≡ admit-answer (whole self.old) arm }
+        ensures answer { result ≡ admit_answer (whole self.old) arm }
         ensures after { whole self.new ≡ after (whole self.old) (Admit arm) }
     {
         let record = self.may_admit(arm)?;
@@ -40,7 +40,7 @@ impl<B: Bank> Gate<B> {
 
     // Spends a pass that the gate knows, and sends its arm to the exit. Any other pass is handed back.
     pub fn leave(&mut self, mut pass: Pass) -> Result<Phase, HandedBack>
-        ensures answer { result ≡ leave-answer (whole self.old) pass }
+        ensures answer { result ≡ leave_answer (whole self.old) pass }
         ensures after { whole self.new ≡ after (whole self.old) (Leave pass.gate pass.arm) }
     {
         if !self.knows(&pass) {

@@ -1,8 +1,8 @@
 ghost use Rattle.std.specs.Prelude.{◌≡◌};
-ghost use Rattle.door.specs.States.{is-arm};
+ghost use Rattle.door.specs.States.{is_arm};
 ghost use Rattle.door.specs.declared.call.Call.TheVariants.{Begin, Step, Admit, Look, Way};
 ghost use Rattle.door.specs.Calls.{knows};
-ghost use Rattle.gate.specs.Answers.{record-for};
+ghost use Rattle.gate.specs.Answers.{record_for};
 ghost use Rattle.gate.specs.Whole.{whole};
 
 use crate::gate::Gate;
@@ -17,14 +17,14 @@ const VISIT_LIMIT: u32 = 1_000_000_000;
 
 impl<B: Bank> Gate<B> {
     pub(crate) fn is_arm(&self, i: usize) -> bool
-        ensures { result ≡ is-arm (whole self.now) i }
+        ensures { result ≡ is_arm (whole self.now) i }
     {
         i >= 1 && i <= self.n
     }
 
     // The record of an arm that the gate has.
     pub(crate) fn record(&self, i: usize) -> Result<Arm, Refusal>
-        ensures { result ≡ record-for (whole self.now) (Look i) i }
+        ensures { result ≡ record_for (whole self.now) (Look i) i }
     {
         if !self.is_arm(i) {
             return Err(Refusal::NoArm);
@@ -34,7 +34,7 @@ impl<B: Bank> Gate<B> {
 
     // The record of an arm that may begin.
     pub(crate) fn may_begin(&self, i: usize) -> Result<Arm, Refusal>
-        ensures { result ≡ record-for (whole self.now) (Begin i) i }
+        ensures { result ≡ record_for (whole self.now) (Begin i) i }
     {
         let arm = self.record(i)?;
         match arm.position.phase() {
@@ -46,7 +46,7 @@ impl<B: Bank> Gate<B> {
 
     // The record of an arm that may step.
     pub(crate) fn may_step(&self, i: usize) -> Result<Arm, Refusal>
-        ensures { result ≡ record-for (whole self.now) (Step i) i }
+        ensures { result ≡ record_for (whole self.now) (Step i) i }
     {
         let arm = self.record(i)?;
         match arm.position.phase() {
@@ -58,7 +58,7 @@ impl<B: Bank> Gate<B> {
 
     // The record of an arm that may be admitted.
     pub(crate) fn may_admit(&self, i: usize) -> Result<Arm, Refusal>
-        ensures { result ≡ record-for (whole self.now) (Admit i) i }
+        ensures { result ≡ record_for (whole self.now) (Admit i) i }
     {
         let arm = self.record(i)?;
         match arm.position.phase() {
@@ -70,7 +70,7 @@ impl<B: Bank> Gate<B> {
 
     // The record of an arm that waits.
     pub(crate) fn waits(&self, i: usize) -> Result<Arm, Refusal>
-        ensures { result ≡ record-for (whole self.now) (Way i) i }
+        ensures { result ≡ record_for (whole self.now) (Way i) i }
     {
         let arm = self.record(i)?;
         match arm.position.phase() {

@@ -1,6 +1,6 @@
 ghost use Rattle.std.specs.Prelude.{◌≡◌};
-ghost use Rattle.gate.specs.Answers.{index_of, look-answer, tally-answer, most-answer};
-ghost use Rattle.door.specs.States.{bit-of};
+ghost use Rattle.gate.specs.Answers.{index_of, look_answer, tally_answer, most_answer};
+ghost use Rattle.door.specs.States.{bit_of};
 ghost use Rattle.gate.specs.Whole.{whole};
 
 use crate::gate::{Gate, Tally, View};
@@ -30,7 +30,7 @@ impl<B: Bank> Gate<B> {
 
     // The group bit; 0 where the gate has no arms.
     pub fn bit(&self) -> u64
-        ensures { result ≡ bit-of (whole self.now) }
+        ensures { result ≡ bit_of (whole self.now) }
     {
         if self.arm_count() == 0 {
             return 0;
@@ -40,7 +40,7 @@ impl<B: Bank> Gate<B> {
 
     // Phase, side, index, visits and mark of an arm.
     pub fn look(&self, arm: usize) -> Result<View, Refusal>
-        ensures { result ≡ look-answer (whole self.now) arm }
+        ensures { result ≡ look_answer (whole self.now) arm }
     {
         let record = self.record(arm)?;
         Ok(View {
@@ -54,7 +54,7 @@ impl<B: Bank> Gate<B> {
 
     // How often the other arm went inside past this one, and whether it was idle when this one ended its doorway.
     pub fn tally(&self, arm: usize, other: usize) -> Result<Tally, Refusal>
-        ensures { result ≡ tally-answer (whole self.now) arm other }
+        ensures { result ≡ tally_answer (whole self.now) arm other }
     {
         let record = self.record(arm)?;
         self.record(other)?;
@@ -66,7 +66,7 @@ impl<B: Bank> Gate<B> {
 
     // The most that any arm went inside past this one: the largest count of its row.
     pub fn most_passed(&self, arm: usize) -> Result<u8, Refusal>
-        ensures { result ≡ most-answer (whole self.now) arm }
+        ensures { result ≡ most_answer (whole self.now) arm }
     {
         let record = self.record(arm)?;
         Ok(largest(&record.row, self.n))

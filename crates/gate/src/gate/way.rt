@@ -1,6 +1,6 @@
 ghost use Rattle.std.specs.Prelude.{◌≡◌, ◌≤◌};
-ghost use Rattle.door.specs.Limits.{arm-limit};
-ghost use Rattle.door.specs.Calls.{some-side, free-for, way-answer};
+ghost use Rattle.door.specs.Limits.{arm_limit};
+ghost use Rattle.door.specs.Calls.{some_side, free_for, way_answer};
 ghost use Rattle.door.specs.Law.{Law, Tells};
 ghost use Rattle.gate.specs.Whole.{whole};
 
@@ -11,8 +11,8 @@ use door::refusal::Refusal;
 
 // Whether one of the first n arms has side t, in its doorway or past it.
 fn some_side(arms: &[Arm; ARM_LIMIT], n: usize, t: u64) -> bool
-    requires { n ≤ arm-limit }
-    ensures { result ≡ some-side t arms.now n }
+    requires { n ≤ arm_limit }
+    ensures { result ≡ some_side t arms.now n }
 {
     for k in 0..n {
         let arm = arms[k];
@@ -26,7 +26,7 @@ fn some_side(arms: &[Arm; ARM_LIMIT], n: usize, t: u64) -> bool
 impl<B: Bank> Gate<B> {
     // The group differs from a side, or no arm has the other side.
     fn is_free(&self, side: u64) -> bool
-        ensures { result ≡ free-for (whole self.now) side }
+        ensures { result ≡ free_for (whole self.now) side }
     {
         let other = 1u64.saturating_sub(side);
         self.bit() != side || !some_side(&self.arms, self.n, other)
@@ -34,7 +34,7 @@ impl<B: Bank> Gate<B> {
 
     // Whether a waiting arm has right of way.
     pub fn way(&self, arm: usize) -> Result<bool, Refusal>
-        ensures answer { result ≡ way-answer (whole self.now) arm }
+        ensures answer { result ≡ way_answer (whole self.now) arm }
         ensures told { Tells (whole self.now) arm result }
         ensures law { Law (whole self.now) }
     {

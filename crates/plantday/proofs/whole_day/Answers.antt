@@ -1,7 +1,7 @@
 use Rattle.std.proofs.Common.{subst}
 use Rattle.gate.specs.Whole.{whole}
 use Rattle.plantday.specs.Day.{Called}
-use Rattle.plantday.proofs.Called.{◌then◌, fair-after}
+use Rattle.plantday.proofs.Called.{◌then◌, fair_after}
 use Rattle.plantday.proofs.whole_day.Goals as goal
 
 pub loop-t-preserved : goal.loop-t-preserved
@@ -10,4 +10,4 @@ loop-t-preserved g c = c.loop-t.invariant then c.turn.ensures
 pub returns : goal.returns
 returns g c =
     let now = whole c.loop-t.gate in
-    fair-after g.B.Bank.highest 7 6 (g.B.Bank.values c.args.bank) (subst (λ s. Called s now) c.make-gate.ensures c.loop-t.invariant)
+    fair_after g.B.Bank.highest 7 6 (g.B.Bank.values c.args.bank) (subst (λ s. Called s now) c.make-gate.ensures c.loop-t.invariant)

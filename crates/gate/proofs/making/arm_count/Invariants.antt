@@ -1,5 +1,5 @@
 use Rattle.std.proofs.Common.{◌≡◌, ◌≤◌, min, length}
-use Rattle.door.specs.Limits.{arm-limit}
+use Rattle.door.specs.Limits.{arm_limit}
 use Rattle.door.specs.Making.{largest}
 use Rattle.gate.proofs.making.arm_count.Given as goal
 
@@ -7,7 +7,7 @@ use Rattle.gate.proofs.making.arm_count.Given as goal
 abbrev pub invariant-loop-n : goal.invariant-loop-n
 invariant-loop-n g l =
     let len = length (g.B.Bank.values l.bank) in
-    (l.n ≤ arm-limit) × (largest len l.n ≡ largest len (min l.wanted arm-limit))
+    (l.n ≤ arm_limit) × (largest len l.n ≡ largest len (min l.wanted arm_limit))
 
 abbrev pub decreases-loop-n : goal.decreases-loop-n
 decreases-loop-n g l = l.n

@@ -1,5 +1,5 @@
 use Rattle.std.proofs.Common.{◌≡◌, ℕ, ◌<◌, ◌≤◌, length, get_or}
-use Rattle.door.specs.Limits.{arm-limit}
+use Rattle.door.specs.Limits.{arm_limit}
 use Rattle.door.specs.Arms.{no_arm}
 use Rattle.door.specs.Tallies.{counted}
 use Rattle.gate.proofs.tally.count_entry.Given as goal
@@ -7,6 +7,6 @@ use Rattle.gate.proofs.tally.count_entry.Given as goal
 -- the records below k are counted, the others as they were
 abbrev pub invariant-loop-k : goal.invariant-loop-k
 invariant-loop-k l =
-    (length l.arms ≡ arm-limit)
+    (length l.arms ≡ arm_limit)
     × ((j : ℕ) → j < l.k → get_or l.arms j no_arm ≡ counted l.b j (get_or l.initial.arms j no_arm))
     × ((j : ℕ) → l.k ≤ j → get_or l.arms j no_arm ≡ get_or l.initial.arms j no_arm)

@@ -1,10 +1,10 @@
 use Rattle.std.proofs.Common.{false, sym, ◌∙◌, arith}
 use Rattle.door.specs.Arms.{no_arm}
-use Rattle.door.specs.Tallies.{is-idle}
-use Rattle.door.proofs.Tables.{map-from}
+use Rattle.door.specs.Tallies.{is_idle}
+use Rattle.door.proofs.Tables.{map_from}
 use Rattle.gate.proofs.tally.idle_arms.Goals as goal
 
 pub returns : goal.returns
 returns c =
-    map-from is-idle c.loop-k.notes c.args.arms.now no_arm false (c.loop-k.invariant.0 ∙ sym c.told-arms)
+    map_from is_idle c.loop-k.notes c.args.arms.now no_arm false (c.loop-k.invariant.0 ∙ sym c.told-arms)
     (λ j h. c.loop-k.invariant.1 j (omega arith))

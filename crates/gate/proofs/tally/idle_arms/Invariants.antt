@@ -1,10 +1,10 @@
 use Rattle.std.proofs.Common.{◌≡◌, ℕ, ◌<◌, false, length, get_or}
-use Rattle.door.specs.Limits.{arm-limit}
+use Rattle.door.specs.Limits.{arm_limit}
 use Rattle.door.specs.Arms.{no_arm}
-use Rattle.door.specs.Tallies.{is-idle}
+use Rattle.door.specs.Tallies.{is_idle}
 use Rattle.gate.proofs.tally.idle_arms.Given as goal
 
 -- the places below k tell who is idle
 abbrev pub invariant-loop-k : goal.invariant-loop-k
 invariant-loop-k l =
-    (length l.notes ≡ arm-limit) × ((j : ℕ) → j < l.k → get_or l.notes j false ≡ is-idle (get_or l.arms j no_arm))
+    (length l.notes ≡ arm_limit) × ((j : ℕ) → j < l.k → get_or l.notes j false ≡ is_idle (get_or l.arms j no_arm))

@@ -1,5 +1,5 @@
 use Rattle.std.proofs.Common.{max, get_or, sym, ap, ◌∙◌, add-one}
-use Rattle.gate.specs.Answers.{largest-count}
+use Rattle.gate.specs.Answers.{largest_count}
 use Rattle.gate.proofs.tally.largest.Goals as goal
 
 pub loop-b-preserved : goal.loop-b-preserved
@@ -8,4 +8,4 @@ loop-b-preserved c =
     let b = c.loop-b.b in
     c.max-most.ensures
     ∙ ap (λ m. max m (get_or row b 0)) c.loop-b.invariant
-    ∙ sym (ap (largest-count row) (add-one b))
+    ∙ sym (ap (largest_count row) (add-one b))

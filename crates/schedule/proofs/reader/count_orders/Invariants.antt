@@ -1,5 +1,5 @@
 use Rattle.std.proofs.Common.{◌≡◌, ◌+◌, ◌-◌, ◌≤◌, length, drop}
-use Rattle.schedule.specs.Reading.{orders-from}
+use Rattle.schedule.specs.Reading.{orders_from}
 use Rattle.schedule.proofs.Told.{tally}
 use Rattle.schedule.proofs.reader.count_orders.Given as goal
 
@@ -7,8 +7,8 @@ use Rattle.schedule.proofs.reader.count_orders.Given as goal
 abbrev pub invariant-loop-at : goal.invariant-loop-at
 invariant-loop-at l =
     (l.from + l.count ≤ l.at)
-    × (tally l.count (orders-from l.at (l.count + 1) (drop l.at l.file))
-    ≡ tally 0 (orders-from l.from 1 (drop l.from l.file)))
+    × (tally l.count (orders_from l.at (l.count + 1) (drop l.at l.file))
+    ≡ tally 0 (orders_from l.from 1 (drop l.from l.file)))
 
 abbrev pub decreases-loop-at : goal.decreases-loop-at
 decreases-loop-at l = length l.file - l.at

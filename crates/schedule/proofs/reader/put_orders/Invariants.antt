@@ -1,5 +1,5 @@
 use Rattle.std.proofs.Common.{◌≡◌, ◌+◌, ◌++◌, take, drop, Ok}
-use Rattle.schedule.specs.Reading.{orders-from, says}
+use Rattle.schedule.specs.Reading.{orders_from, says}
 use Rattle.schedule.proofs.Told.{told}
 use Rattle.schedule.proofs.reader.put_orders.Given as goal
 
@@ -7,4 +7,4 @@ use Rattle.schedule.proofs.reader.put_orders.Given as goal
 abbrev pub invariant-loop-i : goal.invariant-loop-i
 invariant-loop-i l =
     (l.orders ≡ take l.i (told (says l.file)) ++ drop l.i l.initial.orders)
-    × (orders-from l.at (l.i + 1) (drop l.at l.file) ≡ Ok (drop l.i (told (says l.file))))
+    × (orders_from l.at (l.i + 1) (drop l.at l.file) ≡ Ok (drop l.i (told (says l.file))))

@@ -1,9 +1,9 @@
 use Rattle.std.proofs.Common.{◌≡◌, ◌++◌, length, take, drop}
-use Rattle.schedule.specs.Writing.{file-bytes}
+use Rattle.schedule.specs.Writing.{file_bytes}
 use Rattle.schedule.proofs.writer.fill.Given as goal
 
 -- the bytes written so far are those of the orders so far, and the rest is as it was
 abbrev pub invariant-loop-i : goal.invariant-loop-i
 invariant-loop-i l =
-    (l.at ≡ length (file-bytes l.arms (take l.i l.orders)))
-    × (l.out ≡ file-bytes l.arms (take l.i l.orders) ++ drop l.at l.initial.out)
+    (l.at ≡ length (file_bytes l.arms (take l.i l.orders)))
+    × (l.out ≡ file_bytes l.arms (take l.i l.orders) ++ drop l.at l.initial.out)

@@ -1,5 +1,5 @@
-use Rattle.bank.proofs.Flips.{read-bit}
+use Rattle.bank.proofs.Flips.{read_bit}
 use Rattle.bank.proofs.bit_bank.BitBank.bit.Goals as goal
 
 pub returns : goal.returns
-returns c = read-bit c.args.self.now.words c.args.i c.requires
+returns c = read_bit c.args.self.now.words c.args.i c.requires

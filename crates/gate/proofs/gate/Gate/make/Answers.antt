@@ -1,18 +1,18 @@
 use Rattle.std.proofs.Common.{◌<◌, ◌≤◌, length, sym, subst}
-use Rattle.door.specs.Limits.{arm-limit}
+use Rattle.door.specs.Limits.{arm_limit}
 use Rattle.door.specs.Making.{room}
-use Rattle.door.proofs.Rooms.{arms-few, arms-fit}
+use Rattle.door.proofs.Rooms.{arms_few, arms_fit}
 use Rattle.gate.proofs.gate.Gate.make.Goals as goal
 
 pub registers-requires : goal.registers-requires
-registers-requires g c = subst (λ n. n ≤ arm-limit) (sym c.arm_count-n.ensures) (arms-few _ _ _)
+registers-requires g c = subst (λ n. n ≤ arm_limit) (sym c.arm_count-n.ensures) (arms_few _ _ _)
 
 pub clear-requires : goal.clear-requires
 clear-requires g c =
     let high = g.B.Bank.highest in
     let len = length (g.B.Bank.values c.args.bank) in
     let some = subst (λ n. 0 < n) c.arm_count-n.ensures c.if-n-gt0.true in
-    subst (λ k. k ≤ len) (sym c.registers.ensures) (subst (λ n. room n ≤ len) (sym c.arm_count-n.ensures) (arms-fit high len c.args.wanted some))
+    subst (λ k. k ≤ len) (sym c.registers.ensures) (subst (λ n. room n ≤ len) (sym c.arm_count-n.ensures) (arms_fit high len c.args.wanted some))
 
 pub invariant_of-result-clause-few : goal.invariant_of-result-clause-few
-invariant_of-result-clause-few g c = subst (λ n. n ≤ arm-limit) (sym c.arm_count-n.ensures) (arms-few _ _ _)
+invariant_of-result-clause-few g c = subst (λ n. n ≤ arm_limit) (sym c.arm_count-n.ensures) (arms_few _ _ _)

@@ -1,6 +1,6 @@
 use Rattle.std.proofs.Common.{◌≡◌, ◌+◌, ◌-◌, ◌<◌, ◌≤◌, T, get_or, subst, arith, rules}
 use Rattle.door.specs.Arms.{no_arm}
-use Rattle.door.specs.Positions.{letter-of, phase-of}
+use Rattle.door.specs.Positions.{letter_of, phase_of}
 use Rattle.gate.proofs.gate.comparing.same.Goals as goal
 
 pub returns-then-same_registers : goal.returns-then-same_registers
@@ -15,6 +15,6 @@ returns-then-same_registers g c =
       };
       only = λ e. c.same_phases.ensures.only (λ k h.
           let back : (k + 1) - 1 ≡ k = omega arith in
-          subst (λ j. letter-of (phase-of (get_or c.args.a.now.arms j no_arm).position) ≡ letter-of (phase-of (get_or c.args.b.now.arms j no_arm).position))
+          subst (λ j. letter_of (phase_of (get_or c.args.a.now.arms j no_arm).position) ≡ letter_of (phase_of (get_or c.args.b.now.arms j no_arm).position))
           back (e.phases (k + 1) (omega arith) (omega arith)));
     }
