@@ -1,5 +1,4 @@
-ghost use Rattle.std.specs.Prelude.{◌≡◌, ◌<◌, length, Some};
-ghost use Rattle.std.specs.List.{slice_get};
+ghost use Rattle.std.specs.Prelude.{◌≡◌};
 
 use crate::interface::Bank;
 
@@ -17,14 +16,6 @@ impl<'a> ByteBank<'a> {
     {
         ByteBank { bytes }
     }
-
-    // The byte of register i.
-    fn byte(&self, i: usize) -> u64
-        requires { i < length self.now.bytes.now }
-        ensures { Some result ≡ slice_get self.now.bytes.now i }
-    {
-        u64::from(self.bytes[i])
-    }
 }
 
 impl Bank for ByteBank<'_> {
@@ -41,11 +32,7 @@ impl Bank for ByteBank<'_> {
     }
 
     fn read(&self, i: usize) -> Option<u64> {
-        if i < self.bytes.len() {
-            Some(self.byte(i))
-        } else {
-            None
-        }
+        self.bytes.get(i).map(|byte| u64::from(*byte))
     }
 
     fn write(&mut self, i: usize, v: u64) -> bool {
