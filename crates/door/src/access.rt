@@ -4,7 +4,7 @@ ghost use Rattle.door.specs.Positions.{value_read, regs_after};
 use bank::interface::Bank;
 
 // The one register access of a step.
-#[derive(Clone, Copy)]
+#[derive(Clone, Copy, Debug, PartialEq, Eq)]
 pub enum Access {
     Nothing,
     Read(usize),
@@ -12,13 +12,11 @@ pub enum Access {
 }
 
 // The value of register i, or 0 where the bank has none.
+#[tactic(auto, using(crate::proofs::Rooms::read_or_zero))]
 pub fn value_at<B: Bank>(bank: &B, i: usize) -> u64
     ensures { result ≡ slice_index (B.values bank.now) i }
 {
-    match bank.read(i) {
-        Some(value) => value,
-        None => 0,
-    }
+    bank.read(i).unwrap_or(0)
 }
 
 impl Access {

@@ -39,20 +39,14 @@ impl Arm {
     pub fn side_value(&self) -> u64
         ensures { result ≡ side_of self.now.side }
     {
-        match self.side {
-            Some(side) => side,
-            None => 0,
-        }
+        self.side.unwrap_or(0)
     }
 
     // Whether the arm has side t.
     pub fn has_side(&self, t: u64) -> bool
         ensures { result ≡ has_side t self.now.side }
     {
-        match self.side {
-            Some(side) => side == t,
-            None => false,
-        }
+        self.side == Some(t)
     }
 
     // The position and the value just read decide the next position together; it is rewritten in place.

@@ -4,7 +4,7 @@ ghost use Rattle.door.specs.Positions.{choosing_of, mygroup_of, flag_of, phase_o
 use crate::access::Access;
 
 // The phase of an arm: idle, doorway, waiting, inside, leaving.
-#[derive(Clone, Copy)]
+#[derive(Clone, Copy, Debug, PartialEq, Eq)]
 pub enum Phase {
     I,
     D,
@@ -28,7 +28,7 @@ impl Phase {
 }
 
 // The five places of the doorway.
-#[derive(Clone, Copy)]
+#[derive(Clone, Copy, Debug, PartialEq, Eq)]
 pub enum Doorway {
     D1,
     D2,
@@ -38,7 +38,7 @@ pub enum Doorway {
 }
 
 // The six places of a waiting arm.
-#[derive(Clone, Copy)]
+#[derive(Clone, Copy, Debug, PartialEq, Eq)]
 pub enum Place {
     W1,
     W2,
@@ -49,14 +49,14 @@ pub enum Place {
 }
 
 // The two places of the exit.
-#[derive(Clone, Copy)]
+#[derive(Clone, Copy, Debug, PartialEq, Eq)]
 pub enum Exit {
     X1,
     X2,
 }
 
 // Where an arm stands. A waiting arm has the index of the arm that it looks at, from 1, and its place.
-#[derive(Clone, Copy)]
+#[derive(Clone, Copy, Debug, PartialEq, Eq)]
 pub enum Position {
     Idle,
     Doorway(Doorway),
