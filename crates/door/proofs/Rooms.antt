@@ -1,10 +1,10 @@
 -- How many arms a bank has room for, and its registers made 0 one by one.
-use Rattle.std.proofs.Common.{◌≡◌, ℕ, zero, suc, ◌+◌, ◌-◌, ◌<◌, ◌≤◌, min, true, false, cond, eqb, leb, List, [], ◌∷◌, ◌++◌, length, get_or, drop, set, replicate, is_some, unwrap_or, sym, refl, ap, ◌∙◌, inl, inr, append_assoc, arith, length-append, length-drop}
+use Rattle.std.proofs.Common.{◌≡◌, ℕ, zero, suc, ◌+◌, ◌-◌, ◌<◌, ◌≤◌, min, true, false, cond, eqb, leb, List, [], ◌∷◌, ◌++◌, length, get_or, drop, set, replicate, unwrap_or, sym, refl, ap, ◌∙◌, append_assoc, arith, length-append, length-drop}
 use lib.ListN.{length-replicate}
 use Rattle.std.specs.List.{slice_get}
 use Rattle.std.proofs.lemmas.List.{set_at, drop_more, replicate_more}
-use Rattle.std.proofs.lemmas.Option.{unwrap_or-slice_get, slice_get-get_or, slice_get_past}
-use Rattle.std.proofs.lemmas.Bool.{cond-true, cond_both, cases_lt, leb-true, le-leb, lt-leb}
+use Rattle.std.proofs.lemmas.Option.{unwrap_or-slice_get}
+use Rattle.std.proofs.lemmas.Bool.{cond-true, cond_both, leb-true}
 use Rattle.std.proofs.lemmas.Bool.Decides.{nat_tests}
 use Rattle.bank.specs.Registers.{written, can_hold}
 use Rattle.door.specs.Limits.{arm_limit}
@@ -13,14 +13,6 @@ use Rattle.door.specs.Making.{room, largest, arms_for, cleared}
 -- a register read, or 0 where there is none
 pub read_or_zero : (regs : List ℕ) (i : ℕ) → unwrap_or (slice_get regs i) 0 ≡ get_or regs i 0
 read_or_zero regs i = unwrap_or-slice_get regs i 0
-
--- a read at the last register of n arms tells whether they have room
-pub read_tells_room : (regs : List ℕ) (n : ℕ) → is_some (slice_get regs (room n - 1)) ≡ leb (room n) (length regs)
-read_tells_room regs n =
-    elim (cases_lt (room n - 1) (length regs)) [
-      | inl l ↦ ap is_some (slice_get-get_or regs (room n - 1) 0 l) ∙ sym (le-leb (room n) (length regs) (omega arith))
-      | inr l ↦ ap is_some (slice_get_past regs (room n - 1) l) ∙ sym (lt-leb (room n) (length regs) (omega arith))
-    ]
 
 -- the search from above
 pub largest_none : (len n : ℕ) → n ≡ 0 → largest len n ≡ n

@@ -1,8 +1,9 @@
 -- The calls on a gate: which are refused, what an accepted one yields, and what is answered.
-use Rattle.std.specs.Prelude.{ℕ, zero, suc, ◌+◌, ◌-◌, Bool, true, false, cond, not, ◌&&◌, ◌||◌, List, [], ◌∷◌, Some, None, Ok, Err, Option, Result, ◌==◌, nat_lt, slice_index_or, slice_set}
+use Rattle.std.specs.Prelude.{ℕ, take, ◌+◌, ◌-◌, Bool, true, false, cond, not, ◌&&◌, ◌||◌, List, [], ◌∷◌, Some, None, Ok, Err, Option, Result, ◌==◌, nat_lt, slice_set}
+use Rattle.std.specs.List.{list_any}
 use Rattle.door.specs.Limits.{visit_limit}
 use Rattle.door.specs.Positions.{phase_of, side_of, has_side, access_of, value_read, regs_after}
-use Rattle.door.specs.Arms.{no_arm, advanced}
+use Rattle.door.specs.Arms.{advanced}
 use Rattle.door.specs.Tallies.{tallied}
 use Rattle.door.specs.States.{State, is_arm, arm_at, phase_at, bit_of, with_table, with_arm}
 use Rattle.door.specs.declared.access.Access.{Access}
@@ -115,10 +116,9 @@ abbrev pub answered : {X : Type 0} → Option Refusal → X → Result X Refusal
 answered None x = Ok x
 answered (Some r) x = Err r
 
--- whether one of the first k arms has side t
+-- whether one of the first n arms has side t
 abbrev pub some_side : ℕ → List Arm → ℕ → Bool
-some_side t arms zero = false
-some_side t arms (suc k) = has_side t (slice_index_or arms k no_arm).side || some_side t arms k
+some_side t arms n = list_any (λ a. has_side t a.side) (take n arms)
 
 -- the group differs from a side, or no arm has the other side
 abbrev pub free_for : State → ℕ → Bool

@@ -18,10 +18,7 @@ fn has_room<B: Bank>(bank: &B, n: usize) -> bool
     requires { n ≤ arm_limit }
     ensures { result ≡ nat_le (room n) (length (B.values bank.now)) }
 {
-    match bank.read(registers(n) - 1) {
-        Some(_) => true,
-        None => false,
-    }
+    bank.read(registers(n) - 1).is_some()
 }
 
 // How many arms a gate over this bank gets.

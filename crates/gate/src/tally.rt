@@ -10,10 +10,7 @@ use door::position::Phase;
 fn counts(phase: Phase) -> bool
     ensures { result ≡ past_doorway phase }
 {
-    match phase {
-        Phase::W | Phase::F | Phase::X => true,
-        Phase::I | Phase::D => false,
-    }
+    matches!(phase, Phase::W | Phase::F | Phase::X)
 }
 
 // The arm at b went inside: each other arm past its doorway adds 1 for it.
@@ -22,10 +19,9 @@ fn count_entry(arms: &mut [Arm; ARM_LIMIT], b: usize)
     ensures after { arms.new ≡ each (counted b) 0 arms.old }
     ensures full { length arms.new ≡ arm_limit }
 {
-    for k in 0..ARM_LIMIT {
-        let arm = arms[k];
+    for (k, arm) in arms.iter_mut().enumerate() {
         if k != b && counts(arm.position.phase()) {
-            arms[k].row[b] = arm.row[b].saturating_add(1);
+            arm.row[b] = arm.row[b].saturating_add(1);
         }
     }
 }
@@ -35,12 +31,8 @@ fn idle_arms(arms: &[Arm; ARM_LIMIT]) -> [bool; ARM_LIMIT]
     ensures { result ≡ map is_idle arms.now }
 {
     let mut notes = [false; ARM_LIMIT];
-    for k in 0..ARM_LIMIT {
-        let arm = arms[k];
-        notes[k] = match arm.position.phase() {
-            Phase::I => true,
-            _ => false,
-        };
+    for (k, arm) in arms.iter().enumerate() {
+        notes[k] = arm.position.phase() == Phase::I;
     }
     notes
 }
@@ -50,12 +42,10 @@ fn start_row(arms: &mut [Arm; ARM_LIMIT], k: usize)
     requires { k < arm_limit }
     ensures { arms.new ≡ row_started k arms.old }
 {
-    let notes = idle_arms(arms);
-    let arm = arms[k];
     arms[k] = Arm {
         row: [0; ARM_LIMIT],
-        notes,
-        ..arm
+        notes: idle_arms(arms),
+        ..arms[k]
     };
 }
 
@@ -64,11 +54,10 @@ fn clear_row(arms: &mut [Arm; ARM_LIMIT], k: usize)
     requires { k < arm_limit }
     ensures { arms.new ≡ row_cleared k arms.old }
 {
-    let arm = arms[k];
     arms[k] = Arm {
         row: [0; ARM_LIMIT],
         notes: [false; ARM_LIMIT],
-        ..arm
+        ..arms[k]
     };
 }
 

@@ -1,6 +1,6 @@
 -- An arm is free to go or barred; what way tells is which, and that is right of way.
-use Rattle.std.proofs.Common.{◌≡◌, ℕ, zero, suc, ◌+◌, ◌-◌, ◌<◌, ◌≤◌, Bool, true, false, not, T, eqb, ◌≢◌, ◌⊎◌, ◌↔◌, List, get_or, Some, None, Option, sym, refl, ap, ◌∙◌, subst, inl, inr, ⊎_elim, arith}
-use Rattle.std.proofs.lemmas.Bool.{cases_eq, ne_eqb, cond-false}
+use Rattle.std.proofs.Common.{◌≡◌, ℕ, zero, suc, ◌+◌, ◌-◌, ◌<◌, ◌≤◌, Bool, true, false, not, T, eqb, ◌⊎◌, ◌↔◌, List, [], ◌∷◌, get_or, Some, None, Option, sym, refl, ap, ◌∙◌, subst, inl, inr, ⊎_elim, arith}
+use Rattle.std.proofs.lemmas.Bool.{ne_eqb, cond-false}
 use Rattle.door.specs.Positions.{group, side_of, has_side}
 use Rattle.door.specs.Arms.{no_arm}
 use Rattle.door.specs.States.{State, arm_at, bit_of}
@@ -39,17 +39,18 @@ side_same v None = refl
 
 some_find : (t : ℕ) (arms : List Arm) (n : ℕ) → T (some_side t arms n) → (k : ℕ) × (k < n) × T (has_side t (get_or arms k no_arm).side)
 some_find t arms zero h = absurd h
-some_find t arms (suc n) h = ⊎_elim
-    (λ x. (n, omega arith, x))
-    (λ x. let y = some_find t arms n x in (y.0, (let z = y.1 in omega arith), y.2))
-    (or_T (has_side t (get_or arms n no_arm).side) (some_side t arms n) h)
+some_find t [] (suc n) h = absurd h
+some_find t (a ∷ more) (suc n) h = ⊎_elim
+    (λ x. (0, omega arith, x))
+    (λ x. let y = some_find t more n x in (suc y.0, (let z = y.1 in omega arith), y.2))
+    (or_T (has_side t a.side) (some_side t more n) h)
 
-pub some_at : (t : ℕ) (arms : List Arm) (n k : ℕ) → k < n → T (has_side t (get_or arms k no_arm).side) → T (some_side t arms n)
+some_at : (t : ℕ) (arms : List Arm) (n k : ℕ) → k < n → T (has_side t (get_or arms k no_arm).side) → T (some_side t arms n)
 some_at t arms zero k l h = absurd (omega arith)
-some_at t arms (suc n) k l h = ⊎_elim
-    (λ q. T_or_left _ (some_side t arms n) (subst (λ z. T (has_side t (get_or arms z no_arm).side)) q h))
-    (λ ne. let ne' : k ≢ n = ne in T_or_right (has_side t (get_or arms n no_arm).side) _ (some_at t arms n k (omega arith) h))
-    (cases_eq k n)
+some_at t [] (suc n) zero l h = absurd h
+some_at t [] (suc n) (suc k) l h = absurd h
+some_at t (a ∷ more) (suc n) zero l h = T_or_left (has_side t a.side) (some_side t more n) h
+some_at t (a ∷ more) (suc n) (suc k) l h = T_or_right (has_side t a.side) (some_side t more n) (some_at t more n k (omega arith) h)
 
 module _ (s : State) (n : ℕ) (sound : Sound s n) (w : ℕ) (lo : 1 ≤ w) (hi : w ≤ n) (sd : Bool) (wait : Waiting sd (sound.machine.arms w)) where
   abbrev g : Machine

@@ -1,4 +1,4 @@
-ghost use Rattle.std.specs.Prelude.{◌≡◌, ℕ, ◌<◌, ◌≤◌, T, slice_index, slice_index_or};
+ghost use Rattle.std.specs.Prelude.{◌≡◌, ℕ, ◌<◌, ◌≤◌, ◌↔◌, IsTrue, slice_index, slice_index_or};
 ghost use Rattle.door.specs.Limits.{arm_limit};
 ghost use Rattle.gate.specs.Alike.{Alike};
 ghost use Rattle.door.specs.Positions.{phase_of, letter_of};
@@ -13,27 +13,26 @@ use door::arm::{ARM_LIMIT, Arm};
 
 // Whether the first registers of two banks hold the same values.
 fn same_registers<B: Bank, C: Bank>(a: &B, b: &C, count: usize) -> bool
-    ensures yes { T result → (q : ℕ) → q < count → slice_index (B.values a.now) q ≡ slice_index (C.values b.now) q }
-    ensures only { ((q : ℕ) → q < count → slice_index (B.values a.now) q ≡ slice_index (C.values b.now) q) → T result }
+    ensures { IsTrue result ↔ ((q : ℕ) → q < count → slice_index (B.values a.now) q ≡ slice_index (C.values b.now) q) }
 {
-    for i in 0..count {
-        if value_at(a, i) != value_at(b, i) {
-            return false;
-        }
-    }
-    true
+    (0..count).all(|i| value_at(a, i) == value_at(b, i))
+}
+
+// The phase letter of the record at k.
+fn letter_at(arms: &[Arm; ARM_LIMIT], k: usize) -> u8
+    requires { k < arm_limit }
+    ensures { result ≡ letter_of (phase_of (slice_index_or arms.now k no_arm).position) }
+{
+    arms[k].position.phase().letter()
 }
 
 // Whether the first records of two tables have the same phase letters.
 fn same_phases(a: &[Arm; ARM_LIMIT], b: &[Arm; ARM_LIMIT], count: usize) -> bool
     requires { count ≤ arm_limit }
-    ensures yes { T result → (k : ℕ) → k < count → letter_of (phase_of (slice_index_or a.now k no_arm).position) ≡ letter_of (phase_of (slice_index_or b.now k no_arm).position) }
-    ensures only { ((k : ℕ) → k < count → letter_of (phase_of (slice_index_or a.now k no_arm).position) ≡ letter_of (phase_of (slice_index_or b.now k no_arm).position)) → T result }
+    ensures { IsTrue result ↔ ((k : ℕ) → k < count → letter_of (phase_of (slice_index_or a.now k no_arm).position) ≡ letter_of (phase_of (slice_index_or b.now k no_arm).position)) }
 {
     for k in 0..count {
-        let x = a[k];
-        let y = b[k];
-        if x.position.phase().letter() != y.position.phase().letter() {
+        if letter_at(a, k) != letter_at(b, k) {
             return false;
         }
     }
@@ -42,14 +41,10 @@ fn same_phases(a: &[Arm; ARM_LIMIT], b: &[Arm; ARM_LIMIT], count: usize) -> bool
 
 // Whether two gates have as many arms, the same registers and the same phase letters.
 pub fn same<B: Bank, C: Bank>(a: &Gate<B>, b: &Gate<C>) -> bool
-    ensures yes { T result → Alike (whole a.now) (whole b.now) }
-    ensures only { Alike (whole a.now) (whole b.now) → T result }
+    ensures { IsTrue result ↔ Alike (whole a.now) (whole b.now) }
 {
-    if a.n != b.n {
-        return false;
-    }
-    if a.n == 0 {
-        return true;
-    }
-    same_registers(&a.bank, &b.bank, registers(a.n)) && same_phases(&a.arms, &b.arms, a.n)
+    a.n == b.n
+        && (a.n == 0
+            || same_registers(&a.bank, &b.bank, registers(a.n))
+                && same_phases(&a.arms, &b.arms, a.n))
 }

@@ -14,13 +14,7 @@ fn some_side(arms: &[Arm; ARM_LIMIT], n: usize, t: u64) -> bool
     requires { n ≤ arm_limit }
     ensures { result ≡ some_side t arms.now n }
 {
-    for k in 0..n {
-        let arm = arms[k];
-        if arm.has_side(t) {
-            return true;
-        }
-    }
-    false
+    arms[..n].iter().any(|arm| arm.has_side(t))
 }
 
 impl<B: Bank> Gate<B> {
