@@ -1,14 +1,15 @@
 -- The law of the gate: each of its parts for every making and every list of calls.
-use Rattle.std.proofs.Common.{◌≡◌, ℕ, ◌+◌, ◌-◌, ◌*◌, ◌≤◌, Bool, true, false, not, T, ◌↔◌, List, length, Some, None, Ok, Result, sym, refl, ap, ◌∙◌, subst, ⊎_elim, arith}
+use Rattle.std.proofs.Common.{◌≡◌, ℕ, ◌+◌, ◌-◌, ◌*◌, ◌≤◌, Bool, true, false, not, T, ◌↔◌, ◌⊎◌, List, [], ◌∷◌, length, Some, None, Ok, Result, sym, refl, ap, ◌∙◌, subst, inl, inr, ⊎_elim, arith}
+use Rattle.std.proofs.lemmas.Grind.{not_there}
 use Rattle.std.proofs.lemmas.List.{get_or-replicate, length-replicate}
 use Rattle.door.specs.Limits.{arm_limit}
 use Rattle.door.specs.Making.{arms_for}
 use Rattle.door.specs.Arms.{fresh, no_arm}
 use Rattle.door.specs.States.{State, made, is_arm, arm_at, phase_at}
 use Rattle.door.specs.Tallies.{same_phase}
-use Rattle.door.specs.Calls.{run, refusal_of, way_refusal, answered, has_way, way_answer}
-use Rattle.door.specs.History.{is_in, Waits, RightOfWay, bit_read, entries_since, idle_then, Rounds}
-use Rattle.door.specs.Law.{Fair, Law, Tells}
+use Rattle.door.specs.Calls.{after, run, refusal_of, way_refusal, answered, has_way, way_answer}
+use Rattle.door.specs.History.{goes_inside, GoesInside, is_in, Waits, RightOfWay, bit_read, entries_since, idle_then, Rounds}
+use Rattle.door.specs.Law.{Fair, Law, Origin, IsReached, Tells}
 use Rattle.door.specs.declared.call.Call.{Call}
 use Rattle.door.specs.declared.call.Call.TheVariants.{Way}
 use Rattle.door.specs.declared.position.Phase.{Phase}
@@ -161,14 +162,28 @@ yes_is : (b : Bool) → (◌≡◌ {A = Result Bool Refusal} (Ok b) (Ok true)) �
 yes_is true = ((λ e. tt), (λ h. refl))
 yes_is false = ((λ e. absurd (let z : ◌≡◌ {A = ℕ} 0 1 = cc in omega arith)), (λ h. absurd h))
 
-pub tells : (s : State) (w : ℕ) → Tells s w (way_answer s w)
-tells s w high number wanted regs past e wait =
-    let told = (law s high number wanted regs past e).told w wait in
+-- what way answers of a waiting arm, of a state that calls lead to: whether it goes inside is decided, so any origin will do
+decided : (w : ℕ) (s : State) (cs : List Call) → GoesInside w s cs ⊎ ¬ (GoesInside w s cs)
+decided w s [] = inr (λ h. h)
+decided w s (c ∷ cs) =
+    ⊎_elim
+    (λ t. inl (inl t))
+    (λ d. ⊎_elim (λ g. inl (inr g)) (λ n. inr (λ h. ⊎_elim (λ t. clash (goes_inside w s c) t d) n h)) (decided w (after s c) cs))
+    (test (goes_inside w s c))
+
+pub tells : (s : State) (w : ℕ) → IsReached s → Tells s w (way_answer s w)
+tells s w reached wait =
+    let told : Origin s → (T (has_way s w) ↔ RightOfWay s w) = λ p. (law s p.high p.number p.wanted p.regs p.calls p.leads).told w wait in
     let parts = and_T (is_arm s w) (is_in P.W s w) wait in
     let here : refusal_of s (Way w) ≡ None = cond_on (is_arm s w) (way_refusal (phase_at s w)) _ parts.0 ∙ way_accepted (phase_at s w) parts.1 in
     let is : way_answer s w ≡ Ok (has_way s w) = ap (λ r. answered r (has_way s w)) here in
-    let yes = yes_is (has_way s w) in
-    ((λ a. told.0 (yes.0 (sym is ∙ a))), (λ r. is ∙ yes.1 (told.1 r)))
+    let yes = yes_is (has_way s w) in (
+      (λ a cs steps alone. ⊎_elim (λ g. g) (λ n. absurd (not_there reached (λ p. n ((told p).0 (yes.0 (sym is ∙ a)) cs steps alone)))) (decided w s cs)),
+      (λ r. ⊎_elim
+          (λ t. is ∙ yes.1 t)
+          (λ d. absurd (not_there reached (λ p. clash (has_way s w) ((told p).1 r) d)))
+          (test (has_way s w))),
+    )
 
-pub tells_so : (s : State) (w : ℕ) (answer : Result Bool Refusal) → answer ≡ way_answer s w → Tells s w answer
-tells_so s w answer e = subst (Tells s w) (sym e) (tells s w)
+pub tells_so : (s : State) (w : ℕ) (answer : Result Bool Refusal) → IsReached s → answer ≡ way_answer s w → Tells s w answer
+tells_so s w answer reached e = subst (Tells s w) (sym e) (tells s w reached)

@@ -14,6 +14,8 @@ pub mod passed
 pub mod way
 -- how soon an arm goes inside
 pub mod rounds
+-- what leads to a gate
+pub mod Origins
 -- the law, put together
 pub mod Fairness
 -- runs that are computed

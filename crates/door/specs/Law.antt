@@ -30,7 +30,19 @@ Law s = (high number wanted : ℕ) (regs : List ℕ) (past : List Call) →
     let start = made high number wanted regs in
     run start past ≡ s → Fair start past s
 
--- an answer is yes exactly if the arm, which waits, has right of way, however the gate was made and whatever was called
+-- a making, and calls since then, that lead to the state s
+pub record Origin (s : State) : Type 0 where
+  pub high : ℕ
+  pub number : ℕ
+  pub wanted : ℕ
+  pub regs : List ℕ
+  pub calls : List Call
+  pub leads : run (made high number wanted regs) calls ≡ s
+
+-- there is such an origin
+abbrev pub IsReached : State → Type 0
+IsReached s = ∥ Origin s ∥₁
+
+-- an answer is yes exactly if the arm, where it waits, has right of way
 abbrev pub Tells : State → ℕ → Result Bool Refusal → Type 0
-Tells s w answer = (high number wanted : ℕ) (regs : List ℕ) (past : List Call) →
-    run (made high number wanted regs) past ≡ s → Waits s w → (answer ≡ Ok true ↔ RightOfWay s w)
+Tells s w answer = Waits s w → (answer ≡ Ok true ↔ RightOfWay s w)

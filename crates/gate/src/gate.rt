@@ -1,5 +1,7 @@
 ghost use Rattle.std.specs.Prelude.{◌≡◌, ◌≤◌, length};
+ghost use Rattle.door.specs.Law.{IsReached};
 ghost use Rattle.door.specs.Limits.{arm_limit};
+
 // Making a gate, and taking it apart.
 mod making;
 // Which calls are refused.
@@ -30,6 +32,8 @@ pub struct Gate<B: Bank> {
     arms: [Arm; ARM_LIMIT],
     ghost few: { n ≤ arm_limit },
     ghost full: { length arms ≡ arm_limit },
+    // Only a making and calls lead to a gate.
+    ghost reached: { IsReached (record { high = B.highest; number = number; n = n; regs = B.values bank; arms = arms }) },
 }
 
 // What look tells of an arm.

@@ -134,7 +134,7 @@ run_n [] s = refl
 run_n (c ∷ cs) s = run_n cs (after s c) ∙ after_n s c
 
 -- calls one after another
-run_append : (xs ys : List Call) (s : State) → run s (xs ++ ys) ≡ run (run s xs) ys
+pub run_append : (xs ys : List Call) (s : State) → run s (xs ++ ys) ≡ run (run s xs) ys
 run_append [] ys s = refl
 run_append (c ∷ xs) ys s = run_append xs ys (after s c)
 

@@ -1,4 +1,4 @@
-ghost use Rattle.std.specs.Prelude.{◌≡◌, ◌≤◌};
+ghost use Rattle.std.specs.Prelude.{◌≡◌, ◌≤◌, None};
 ghost use Rattle.door.specs.declared.position.Phase.TheVariants as P;
 ghost use Rattle.door.specs.declared.call.Call.TheVariants.{Begin, Step};
 ghost use Rattle.door.specs.Accesses.{OneAccess};
@@ -39,9 +39,11 @@ impl<B: Bank> Gate<B> {
         Ok(self.move_on(arm))
     }
 
-    // The access of an arm and its next position, and the rows that tell of it; answers the phase after it.
+    // The access of an arm that may step and its next position, and the rows that tell of it; answers the phase after it.
     fn move_on(&mut self, arm: usize) -> Phase
-        requires { (1 ≤ arm) × (arm ≤ self.old.n) }
+        requires low { 1 ≤ arm }
+        requires high { arm ≤ self.old.n }
+        requires may { refusal_of (whole self.old) (Step arm) ≡ None }
         ensures answer { result ≡ phase_of (arm_after (whole self.old) arm).position }
         ensures after { whole self.new ≡ stepped arm (whole self.old) }
     {

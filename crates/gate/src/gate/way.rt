@@ -1,7 +1,7 @@
 ghost use Rattle.std.specs.Prelude.{◌≡◌, ◌≤◌};
 ghost use Rattle.door.specs.Limits.{arm_limit};
 ghost use Rattle.door.specs.Calls.{some_side, free_for, way_answer};
-ghost use Rattle.door.specs.Law.{Law, Tells};
+ghost use Rattle.door.specs.Law.{IsReached, Law, Tells};
 ghost use Rattle.gate.specs.Whole.{whole};
 
 use crate::gate::Gate;
@@ -27,10 +27,12 @@ impl<B: Bank> Gate<B> {
     }
 
     // Whether a waiting arm has right of way.
+    #[tactic(auto, using(door::proofs::Fairness::law, door::proofs::Fairness::tells_so))]
     pub fn way(&self, arm: usize) -> Result<bool, Refusal>
         ensures answer { result ≡ way_answer (whole self.now) arm }
         ensures told { Tells (whole self.now) arm result }
         ensures law { Law (whole self.now) }
+        ensures reached { IsReached (whole self.now) }
     {
         let record = self.waits(arm)?;
         Ok(self.is_free(record.side_value()))

@@ -1,4 +1,5 @@
-use Rattle.std.proofs.Common.{◌<◌, ◌≤◌, length, sym, subst}
+use Rattle.std.proofs.Common.{◌<◌, ◌≤◌, length, sym, subst, rules}
+use Rattle.door.proofs.Origins.{reached_made}
 use Rattle.door.specs.Limits.{arm_limit}
 use Rattle.door.specs.Making.{room}
 use Rattle.door.proofs.Rooms.{arms_few, arms_fit}
@@ -16,3 +17,7 @@ clear-requires g c =
 
 pub invariant_of-result-clause-few : goal.invariant_of-result-clause-few
 invariant_of-result-clause-few g c = subst (λ n. n ≤ arm_limit) (sym c.arm_count-n.ensures) (arms_few _ _ _)
+
+pub invariant_of-result-clause-reached : goal.invariant_of-result-clause-reached
+invariant_of-result-clause-reached g c =
+    reached_made g.B.Bank.highest c.args.number c.args.wanted (g.B.Bank.values c.args.bank) _ (search rules)

@@ -1,18 +1,7 @@
-use Rattle.std.proofs.Common.{◌≡◌, Bool, Ok, Result, rules}
-use Rattle.door.specs.Calls.{way_answer}
+use Rattle.std.proofs.Common.{Ok, rules}
+use Rattle.door.proofs.Fairness.{tells_so}
 use Rattle.gate.specs.Whole.{whole}
-use Rattle.door.specs.declared.refusal.Refusal.{Refusal}
-use Rattle.door.proofs.Fairness.{law, tells_so}
 use Rattle.gate.proofs.gate.Gate.way.Goals as goal
 
-pub returns-in_err-record : goal.returns-in_err-record
-returns-in_err-record g c =
-    let s = whole c.args.self.now in
-    let e : ◌≡◌ {A = Result Bool Refusal} c.from_residual.result (way_answer s c.args.arm) = search rules in
-    record { answer = e; told = tells_so s c.args.arm _ e; law = law s }
-
-pub returns : goal.returns
-returns g c =
-    let s = whole c.args.self.now in
-    let e : ◌≡◌ {A = Result Bool Refusal} (Ok c.is_free.result) (way_answer s c.args.arm) = search rules in
-    record { answer = e; told = tells_so s c.args.arm _ e; law = law s }
+pub returns-clause-told : goal.returns-clause-told
+returns-clause-told g c = tells_so (whole c.args.self.now) c.args.arm (Ok c.is_free.result) c.args.self.now.reached (search rules)

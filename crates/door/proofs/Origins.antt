@@ -1,0 +1,22 @@
+-- Calls lead to a gate just made, and to a gate after one more call.
+use Rattle.std.proofs.Common.{◌≡◌, ℕ, List, [], ◌∷◌, ◌++◌, Ok, Option, None, sym, refl, ap, ◌∙◌, subst}
+use Rattle.std.proofs.Math.Logic.{∥∥₁_map}
+use Rattle.door.specs.Calls.{after, run}
+use Rattle.door.specs.Law.{IsReached}
+use Rattle.door.specs.States.{State, made}
+use Rattle.door.specs.declared.call.Call.{Call}
+use Rattle.door.proofs.machine.Reached.{run_append}
+
+pub reached_made : (high number wanted : ℕ) (regs : List ℕ) (s : State) → s ≡ made high number wanted regs → IsReached s
+reached_made high number wanted regs s e = ∣ record { high = high; number = number; wanted = wanted; regs = regs; calls = []; leads = sym e } ∣₁
+
+pub reached_after : (s : State) (c : Call) (t : State) → t ≡ after s c → IsReached s → IsReached t
+reached_after s c t e reached =
+    ∥∥₁_map reached (λ p. record {
+      high = p.high;
+      number = p.number;
+      wanted = p.wanted;
+      regs = p.regs;
+      calls = p.calls ++ c ∷ [];
+      leads = run_append p.calls (c ∷ []) (made p.high p.number p.wanted p.regs) ∙ ap (λ x. after x c) p.leads ∙ sym e;
+    })
