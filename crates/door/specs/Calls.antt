@@ -1,5 +1,5 @@
 -- The calls on a gate: which are refused, what an accepted one yields, and what is answered.
-use Rattle.std.specs.Prelude.{ℕ, take, ◌+◌, ◌-◌, Bool, true, false, cond, not, ◌&&◌, ◌||◌, List, [], ◌∷◌, Some, None, Ok, Err, Option, Result, ◌==◌, nat_lt, slice_set}
+use Rattle.std.specs.Prelude.{ℕ, take, ◌+◌, ◌-◌, Bool, true, false, if◌then◌else◌, not, ◌&&◌, ◌||◌, List, [], ◌∷◌, Some, None, Ok, Err, Option, Result, ◌==◌, nat_lt, slice_set}
 use Rattle.std.specs.List.{list_any}
 use Rattle.door.specs.Limits.{visit_limit}
 use Rattle.door.specs.Positions.{phase_of, side_of, has_side, access_of, value_read, regs_after}
@@ -21,7 +21,7 @@ use Rattle.door.specs.declared.refusal.Refusal.TheVariants as R
 
 -- why a call is refused; none where it is accepted
 abbrev pub begin_refusal : Phase → ℕ → Option Refusal
-begin_refusal P.I visits = cond (nat_lt visits visit_limit) None (Some R.Worn)
+begin_refusal P.I visits = if nat_lt visits visit_limit then None else Some R.Worn
 begin_refusal P.D visits = Some R.Busy
 begin_refusal P.W visits = Some R.Busy
 begin_refusal P.F visits = Some R.Busy
@@ -38,7 +38,7 @@ abbrev pub admit_refusal : Phase → Bool → Option Refusal
 admit_refusal P.I out = Some R.Elsewhere
 admit_refusal P.D out = Some R.Elsewhere
 admit_refusal P.W out = Some R.Elsewhere
-admit_refusal P.F out = cond out (Some R.Taken) None
+admit_refusal P.F out = if out then Some R.Taken else None
 admit_refusal P.X out = Some R.Elsewhere
 
 abbrev pub way_refusal : Phase → Option Refusal
@@ -54,14 +54,14 @@ knows s gate i = gate == s.number && (is_arm s i && (arm_at s i).out)
 
 -- no such arm comes before all else
 abbrev pub for_arm : State → ℕ → Option Refusal → Option Refusal
-for_arm s i more = cond (is_arm s i) more (Some R.NoArm)
+for_arm s i more = if is_arm s i then more else Some R.NoArm
 
 abbrev pub refusal_of : State → Call → Option Refusal
 refusal_of s (begin i) = for_arm s i (begin_refusal (phase_at s i) (arm_at s i).visits)
 refusal_of s (step i) = for_arm s i (step_refusal (phase_at s i))
 refusal_of s (admit i) = for_arm s i (admit_refusal (phase_at s i) (arm_at s i).out)
 refusal_of s (confirm gate i) = None
-refusal_of s (leave gate i) = cond (knows s gate i) None (Some R.StrangePass)
+refusal_of s (leave gate i) = if knows s gate i then None else Some R.StrangePass
 refusal_of s (look i) = for_arm s i None
 refusal_of s (tally w b) = for_arm s w (for_arm s b None)
 refusal_of s (way i) = for_arm s i (way_refusal (phase_at s i))

@@ -1,5 +1,5 @@
 -- The table of positions: the one access at each, and where the value just read leads.
-use Rattle.std.specs.Prelude.{ℕ, ◌+◌, ◌-◌, ◌*◌, Bool, false, cond, List, Some, None, Option, ◌==◌, nat_lt, slice_index}
+use Rattle.std.specs.Prelude.{ℕ, ◌+◌, ◌-◌, ◌*◌, Bool, false, if◌then◌else◌, List, Some, None, Option, ◌==◌, nat_lt, slice_index}
 use Rattle.bank.specs.Registers.{written}
 use Rattle.door.specs.declared.access.Access.{Access}
 use Rattle.door.specs.declared.access.Access.TheVariants.{Nothing, Read, Write}
@@ -76,16 +76,16 @@ regs_after high regs (Write q v) = written high regs q v
 
 -- next: W1 at j + 1, or inside after the last arm
 abbrev pub onward : ℕ → ℕ → Position
-onward n j = cond (nat_lt j n) (Waiting (j + 1) W1) Inside
+onward n j = if nat_lt j n then Waiting (j + 1) W1 else Inside
 
 -- where a waiting arm of n with a side goes, having read v
 abbrev pub next_place : ℕ → ℕ → ℕ → ℕ → Place → Position
-next_place n side v j W1 = cond (v == side) (Waiting j W2) Inside
-next_place n side v j W2 = cond (v == 0) (Waiting j W3) (Waiting j W2)
-next_place n side v j W3 = cond (v == side) (onward n j) (Waiting j W4)
-next_place n side v j W4 = cond (v == 0) (onward n j) (Waiting j W5)
-next_place n side v j W5 = cond (v == side) (Waiting j W6) (onward n j)
-next_place n side v j W6 = cond (v == side) (onward n j) (Waiting j W4)
+next_place n side v j W1 = if v == side then Waiting j W2 else Inside
+next_place n side v j W2 = if v == 0 then Waiting j W3 else Waiting j W2
+next_place n side v j W3 = if v == side then onward n j else Waiting j W4
+next_place n side v j W4 = if v == 0 then onward n j else Waiting j W5
+next_place n side v j W5 = if v == side then Waiting j W6 else onward n j
+next_place n side v j W6 = if v == side then onward n j else Waiting j W4
 
 -- where an arm goes, having read v
 abbrev pub next_of : ℕ → ℕ → ℕ → Position → Position

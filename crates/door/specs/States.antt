@@ -1,5 +1,5 @@
 -- The state of a gate.
-use Rattle.std.specs.Prelude.{ℕ, ◌-◌, Bool, cond, ◌&&◌, List, length, replicate, ◌==◌, nat_le, slice_index, slice_index_or, slice_set}
+use Rattle.std.specs.Prelude.{ℕ, ◌-◌, Bool, if◌then◌else◌, ◌&&◌, List, length, replicate, ◌==◌, nat_le, slice_index, slice_index_or, slice_set}
 use Rattle.door.specs.Limits.{arm_limit}
 use Rattle.door.specs.Positions.{group, phase_of}
 use Rattle.door.specs.Arms.{fresh, no_arm}
@@ -46,4 +46,4 @@ with_arm i a s = with_table s.regs (slice_set s.arms (i - 1) a) s
 
 -- the group bit; 0 where the gate has no arms
 abbrev pub bit_of : State → ℕ
-bit_of s = cond (s.n == 0) 0 (slice_index s.regs group)
+bit_of s = if s.n == 0 then 0 else slice_index s.regs group

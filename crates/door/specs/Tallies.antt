@@ -1,5 +1,5 @@
 -- How often each arm went inside past another, and which arms were idle when it ended its doorway.
-use Rattle.std.specs.Prelude.{ℕ, suc, ◌+◌, min, Bool, true, false, cond, not, ◌&&◌, List, [], ◌∷◌, map, replicate, ◌==◌, slice_index, slice_index_or, slice_set}
+use Rattle.std.specs.Prelude.{ℕ, suc, ◌+◌, min, Bool, true, false, if◌then◌else◌, not, ◌&&◌, List, [], ◌∷◌, map, replicate, ◌==◌, slice_index, slice_index_or, slice_set}
 use Rattle.door.specs.Limits.{arm_limit, tally_limit}
 use Rattle.door.specs.Positions.{phase_of, letter_of}
 use Rattle.door.specs.Arms.{no_arm}
@@ -28,9 +28,9 @@ past_doorway P.X = true
 -- the record at k once the arm at b went inside: any other arm past its doorway adds 1 for it, up to the limit
 abbrev pub counted : ℕ → ℕ → Arm → Arm
 counted b k a =
-    cond (not (k == b) && past_doorway (phase_of a.position))
-    (with_row (slice_set a.row b (min (slice_index a.row b + 1) tally_limit)) a.notes a)
-    a
+    if not (k == b) && past_doorway (phase_of a.position)
+    then with_row (slice_set a.row b (min (slice_index a.row b + 1) tally_limit)) a.notes a
+    else a
 
 -- f of each record and its place, from k on
 abbrev pub each : (ℕ → Arm → Arm) → ℕ → List Arm → List Arm
@@ -49,7 +49,7 @@ row_cleared k arms = slice_set arms k (with_row (replicate arm_limit 0) (replica
 -- at the end of its doorway its row starts, when it goes inside it is counted, at the end of its visit its row is cleared
 abbrev pub tallied : ℕ → Phase → Phase → List Arm → List Arm
 tallied k P.I q arms = arms
-tallied k P.D q arms = cond (same_phase q P.W) (row_started k arms) arms
-tallied k P.W q arms = cond (same_phase q P.F) (each (counted k) 0 arms) arms
+tallied k P.D q arms = if same_phase q P.W then row_started k arms else arms
+tallied k P.W q arms = if same_phase q P.F then each (counted k) 0 arms else arms
 tallied k P.F q arms = arms
-tallied k P.X q arms = cond (same_phase q P.I) (row_cleared k arms) arms
+tallied k P.X q arms = if same_phase q P.I then row_cleared k arms else arms
