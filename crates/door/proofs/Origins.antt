@@ -1,7 +1,7 @@
 -- Calls lead to a gate just made, and to a gate after one more call.
-use Rattle.std.proofs.Common.{◌≡◌, ℕ, List, [], ◌∷◌, ◌++◌, Ok, Option, None, sym, refl, ap, ◌∙◌, subst}
+use Rattle.std.proofs.Common.{◌≡◌, ℕ, List, [], ◌∷◌, ◌++◌, sym, ap, ◌∙◌}
 use Rattle.std.proofs.Math.Logic.{∥∥₁_map}
-use Rattle.door.specs.Calls.{after, run}
+use Rattle.door.specs.Calls.{after}
 use Rattle.door.specs.Law.{IsReached}
 use Rattle.door.specs.States.{State, made}
 use Rattle.door.specs.declared.call.Call.{Call}

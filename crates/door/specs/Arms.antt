@@ -16,7 +16,7 @@ no_arm = record { position = Idle; side = None; visits = 0; out = false; row = [
 
 -- a record with another position and side
 abbrev pub moved : Position → Option ℕ → Arm → Arm
-moved p s a = record { position = p; side = s; visits = a.visits; out = a.out; row = a.row; notes = a.notes }
+moved p s a = record a { position = p; side = s }
 
 abbrev pub sided : ℕ → Arm → Arm
 sided v a = moved a.position (side_after v a.position a.side) a

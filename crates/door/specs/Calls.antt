@@ -68,7 +68,7 @@ refusal_of s (way i) = for_arm s i (way_refusal (phase_at s i))
 
 -- a record with another position, count of visits and mark
 abbrev pub with_visit : Position → ℕ → Bool → Arm → Arm
-with_visit p v o a = record { position = p; side = a.side; visits = v; out = o; row = a.row; notes = a.notes }
+with_visit p v o a = record a { position = p; visits = v; out = o }
 
 -- the access of arm i
 abbrev pub access_at : State → ℕ → Access

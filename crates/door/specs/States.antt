@@ -38,7 +38,7 @@ phase_at s i = phase_of (arm_at s i).position
 
 -- other registers and records
 abbrev pub with_table : List ℕ → List Arm → State → State
-with_table regs arms s = record { high = s.high; number = s.number; n = s.n; regs = regs; arms = arms }
+with_table regs arms s = record s { regs = regs; arms = arms }
 
 -- another record for arm i
 abbrev pub with_arm : ℕ → Arm → State → State
