@@ -1,6 +1,7 @@
 -- A report fits the least memory that is asked for.
 use Rattle.std.proofs.Common.{ℕ, zero, suc, ◌+◌, ◌-◌, ◌*◌, ◌^◌, ◌<◌, ◌≤◌, eqb, List, length, get_or, Some, None, Option, mul-suc, arith, length-append}
 use Rattle.std.proofs.lemmas.Bool.{cond_both}
+use Rattle.std.proofs.lemmas.Fmt.{length-decimal-le}
 use Rattle.std.proofs.lemmas.Bool.Decides.{nat_tests}
 use Rattle.door.specs.Limits.{arm_limit, tally_limit}
 use Rattle.door.specs.Positions.{group, side_of}
@@ -10,10 +11,9 @@ use Rattle.play.specs.Limits.{report_room}
 use Rattle.play.specs.Text.{lines}
 use Rattle.gate.specs.Answers.{largest_count}
 use Rattle.play.specs.Reports.{side_text, arm_line, first_line, report_text}
-use Rattle.play.proofs.Decimals.{decimal_within}
 
 side_short : (s : Option ℕ) → side_of s ≤ 1 → length (side_text s) ≤ 1
-side_short (Some v) h = decimal_within 1 v (omega arith) (omega arith) (omega arith)
+side_short (Some v) h = length-decimal-le 1 v (omega arith) (omega arith) (omega arith)
 side_short None h = omega arith
 
 largest_bounded : (row : List ℕ) (n : ℕ) → ((b : ℕ) → get_or row b 0 ≤ tally_limit) → largest_count row n ≤ tally_limit
@@ -31,10 +31,10 @@ line_short s k h l =
     let b = h.each ((k + 1) - 1) in
     let most = largest_bounded a.row s.n b.counts in
     let begun = b.begun in
-    let arm = decimal_within 2 (k + 1) (omega arith) (omega arith) (omega arith) in
+    let arm = length-decimal-le 2 (k + 1) (omega arith) (omega arith) (omega arith) in
     let side = side_short a.side b.bit in
-    let visits = decimal_within 10 a.visits (omega arith) (omega arith) (omega arith) in
-    let count = decimal_within 3 (largest_count a.row s.n) (omega arith) (omega arith) (omega arith) in
+    let visits = length-decimal-le 10 a.visits (omega arith) (omega arith) (omega arith) in
+    let count = length-decimal-le 3 (largest_count a.row s.n) (omega arith) (omega arith) (omega arith) in
     simp length-append (omega arith)
 
 lines_short : (line : ℕ → List ℕ) (most n : ℕ) → ((k : ℕ) → k < n → length (line k) ≤ most) → length (lines line n) ≤ most * n
@@ -49,10 +49,10 @@ first_short : (s : State) (orders refused : ℕ) → Bounded s → orders < 2 ^ 
 first_short s orders refused h o r =
     let few = h.few in
     let one = bit_short s h in
-    let arms = decimal_within 2 s.n (omega arith) (omega arith) (omega arith) in
-    let all = decimal_within 20 orders (omega arith) (omega arith) o in
-    let no_ones = decimal_within 20 refused (omega arith) (omega arith) r in
-    let bit = decimal_within 1 (bit_of s) (omega arith) (omega arith) (omega arith) in
+    let arms = length-decimal-le 2 s.n (omega arith) (omega arith) (omega arith) in
+    let all = length-decimal-le 20 orders (omega arith) (omega arith) o in
+    let no_ones = length-decimal-le 20 refused (omega arith) (omega arith) r in
+    let bit = length-decimal-le 1 (bit_of s) (omega arith) (omega arith) (omega arith) in
     simp length-append (omega arith)
 
 pub report_fits : (s : State) (orders refused : ℕ) → Bounded s → orders < 2 ^ 64 → refused < 2 ^ 64 → length (report_text s orders refused) ≤ report_room

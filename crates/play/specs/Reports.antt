@@ -1,5 +1,5 @@
 -- The text of a report and of a fault, and the memory that takes it.
-use Rattle.std.specs.Prelude.{ℕ, ◌+◌, Bool, cond, ◌&&◌, List, [], ◌∷◌, ◌++◌, length, Some, None, Ok, Err, codes, Option, Result, nat_le}
+use Rattle.std.specs.Prelude.{ℕ, ◌+◌, Bool, cond, ◌&&◌, List, [], ◌∷◌, ◌++◌, length, Some, None, Ok, Err, codes, decimal, Option, Result, nat_le}
 use Rattle.door.specs.Positions.{letter_of}
 use Rattle.door.specs.States.{State, arm_at, phase_at, bit_of}
 use Rattle.gate.specs.Answers.{largest_count}
@@ -9,7 +9,7 @@ use Rattle.schedule.specs.declared.fault.Layer.TheVariants as L
 use Rattle.schedule.specs.declared.fault.PlayFault.{PlayFault}
 use Rattle.schedule.specs.declared.fault.PlayFault.TheVariants.{ShortMemory}
 use Rattle.play.specs.Limits.{report_room}
-use Rattle.play.specs.Text.{decimal, lines, overwritten}
+use Rattle.play.specs.Text.{lines, overwritten}
 
 -- a side, or a dash where it is missing
 abbrev pub side_text : Option ℕ → List ℕ

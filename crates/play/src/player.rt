@@ -1,6 +1,6 @@
 ghost use Rattle.std.specs.Prelude.{◌≡◌, ◌≤◌, length, Ok};
 ghost use Rattle.std.specs.Result.{result_err};
-ghost use Rattle.door.specs.Calls.{refusal_of, unless};
+ghost use Rattle.door.specs.Calls.{refusal_of};
 ghost use Rattle.door.specs.declared.call.Call.TheVariants.{Admit};
 ghost use Rattle.gate.specs.Whole.{whole};
 ghost use Rattle.schedule.specs.Reading.{says, heading_of};
@@ -9,7 +9,6 @@ ghost use Rattle.play.specs.Playing.{order_refusal, obeyed, left_at_once, playab
 use crate::report::{REPORT_ROOM, report};
 use crate::service::Service;
 use bank::interface::Bank;
-use door::position::Phase;
 use door::refusal::Refusal;
 use gate::gate::Gate;
 use schedule::fault::PlayFault;
@@ -24,28 +23,14 @@ pub struct Played<B> {
     pub answer: Result<usize, PlayFault>,
 }
 
-// Admits an arm and lets it leave at once; the refusal, if any.
-fn leave_at_once<B: Bank>(gate: &mut Gate<B>, arm: usize) -> Option<Refusal>
-    ensures answer { result ≡ refusal_of (whole gate.old) (Admit arm) }
+// Admits an arm and lets it leave at once, unless the gate refuses it.
+fn leave_at_once<B: Bank>(gate: &mut Gate<B>, arm: usize) -> Result<(), Refusal>
+    ensures answer { result_err result ≡ refusal_of (whole gate.old) (Admit arm) }
     ensures after { whole gate.new ≡ left_at_once (whole gate.old) arm }
 {
-    match gate.admit(arm) {
-        Ok(pass) => match gate.leave(pass) {
-            Ok(_) => None,
-            Err(_) => unreachable(),
-        },
-        Err(refusal) => Some(refusal),
-    }
-}
-
-// The refusal in an answer, if any.
-fn refusal(answer: Result<Phase, Refusal>) -> Option<Refusal>
-    ensures { result ≡ result_err answer }
-{
-    match answer {
-        Ok(_) => None,
-        Err(refusal) => Some(refusal),
-    }
+    let pass = gate.admit(arm)?;
+    gate.leave(pass).unwrap();
+    Ok(())
 }
 
 // Obeys one order, unless the gate refuses it.
@@ -54,20 +39,9 @@ fn obey<B: Bank>(gate: &mut Gate<B>, order: Order) -> Option<Refusal>
     ensures after { whole gate.new ≡ obeyed (whole gate.old) order }
 {
     match order {
-        Order::Begin(arm) => refusal(gate.begin(usize::from(arm))),
-        Order::Step(arm) => refusal(gate.step(usize::from(arm))),
-        Order::Leave(arm) => leave_at_once(gate, usize::from(arm)),
-    }
-}
-
-// An order that was refused counts.
-fn count(refusal: Option<Refusal>) -> usize
-    ensures value { result ≡ unless refusal 0 1 }
-    ensures bound { result ≤ 1 }
-{
-    match refusal {
-        Some(_) => 1,
-        None => 0,
+        Order::Begin(arm) => gate.begin(usize::from(arm)).err(),
+        Order::Step(arm) => gate.step(usize::from(arm)).err(),
+        Order::Leave(arm) => leave_at_once(gate, usize::from(arm)).err(),
     }
 }
 
@@ -77,17 +51,11 @@ fn obey_all<B: Bank>(gate: &mut Gate<B>, file: &[u8], heading: Heading) -> usize
     ensures refused { result ≡ refused_by (says file.now) (whole gate.old) }
     ensures after { whole gate.new ≡ obeyed_by (says file.now) (whole gate.old) }
 {
-    let mut at = match arms_of(file) {
-        Ok(first) => first.next,
-        Err(_) => unreachable(),
-    };
+    let mut at = arms_of(file).unwrap().next;
     let mut refused = 0;
     for i in 0..heading.orders {
-        let placed = match order_at(file, at, i + 1) {
-            Ok(placed) => placed,
-            Err(_) => unreachable(),
-        };
-        refused += count(obey(gate, placed.order));
+        let placed = order_at(file, at, i + 1).unwrap();
+        refused += usize::from(obey(gate, placed.order).is_some());
         at = placed.next;
     }
     refused
