@@ -1,6 +1,7 @@
 -- The gate at the end of a play, and what the play answers.
 use Rattle.std.proofs.Common.{◌≡◌, ℕ, ◌^◌, ◌<◌, ◌≤◌, Bool, true, false, cond, leb, List, [], ◌∷◌, length, Ok, Err, sym, refl, ap, ◌∙◌, subst, arith}
-use Rattle.std.proofs.lemmas.Bool.{cond-true, leb-true, le-leb, and_from}
+use Rattle.std.proofs.lemmas.Bool.{cond-true}
+use Rattle.std.proofs.lemmas.Bool.Decides.{nat_tests}
 use Rattle.door.specs.Calls.{refusal_of, after}
 use Rattle.door.specs.declared.call.Call.TheVariants.{Begin as begin, Step as step, Admit as admit, Leave as leave}
 use Rattle.door.specs.States.{State, made}
@@ -39,30 +40,17 @@ pub record Ready (file : List ℕ) (room : ℕ) (h : Heading) : Type 0 where
   pub enough : report_room ≤ room
 
 pub ready_from : (file : List ℕ) (room : ℕ) (h : Heading) → Ok h ≡ heading_of (playable file room) → Ready file room h
-ready_from file room h = go (leb (length file) file_limit) (leb report_room room) refl refl
-  where
-    go : (a b : Bool) → leb (length file) file_limit ≡ a → leb report_room room ≡ b → Ok h ≡ heading_of (playable file room) → Ready file room h
-    go true true x y e =
-        record {
-          same = cond-true _ _ _ x ∙ cond-true _ _ _ y;
-          enough = leb-true report_room room y;
-        }
-    go true false x y e =
-        let f : playable file room ≡ Err ShortMemory = ap (λ q. cond q (cond (leb report_room room) (says file) (Err ShortMemory)) (Err LongFile)) x ∙ ap (λ q. cond q (says file) (Err ShortMemory)) y in
-        let g : Ok h ≡ Err ShortMemory = e ∙ ap heading_of f in
-        let z : ◌≡◌ {A = ℕ} 0 1 = cc in absurd (omega arith)
-    go false b x y e =
-        let f : playable file room ≡ Err LongFile = ap (λ q. cond q (cond (leb report_room room) (says file) (Err ShortMemory)) (Err LongFile)) x in
-        let g : Ok h ≡ Err LongFile = e ∙ ap heading_of f in
-        let z : ◌≡◌ {A = ℕ} 0 1 = cc in absurd (omega arith)
+ready_from file room h e = record {
+  same = grind (arith, nat_tests);
+  enough = grind (arith, nat_tests);
+}
 
 -- the report is taken
 pub report_taken : (memory : List ℕ) (s : State) (orders no_ones : ℕ) → Bounded s → orders < 2 ^ 64 → no_ones < 2 ^ 64 → report_room ≤ length memory
     → takes memory (report_text s orders no_ones) ≡ true
 report_taken memory s orders no_ones b o r h =
     let f = report_fits s orders no_ones b o r in
-    and_from (leb report_room (length memory)) (leb (length (report_text s orders no_ones)) (length memory))
-    (le-leb report_room (length memory) h) (le-leb (length (report_text s orders no_ones)) (length memory) (omega arith))
+    grind (arith, nat_tests)
 
 -- what a play comes to: what its text is taken as, what the bank holds, and that the text is short
 pub record Outcome (high : ℕ) (regs memory file text now : List ℕ) : Type 0 where
