@@ -1,10 +1,9 @@
 -- Orders obeyed one after another.
-use Rattle.std.proofs.Common.{◌≡◌, ℕ, ◌+◌, ◌<◌, ◌≤◌, List, ◌∷◌, length, drop, Ok, Err, Result, is_some, IsOk, if◌then◌else◌, sym, ap, ◌∙◌, arith, rules, length-drop}
+use Rattle.std.proofs.Common.{◌≡◌, ℕ, ◌+◌, ◌<◌, ◌≤◌, List, length, drop, Ok, Err, Result, is_some, IsOk, if◌then◌else◌, sym, ap, ◌∙◌, arith, rules, length-drop}
 use Rattle.std.proofs.lemmas.Bool.Decides.{nat_tests}
 use Rattle.door.specs.States.{State}
 use Rattle.schedule.specs.Reading.{says, orders_from, order_from}
 use Rattle.schedule.specs.declared.fault.ScheduleFault.{ScheduleFault}
-use Rattle.schedule.specs.declared.order.Order.{Order}
 use Rattle.schedule.specs.declared.reader.Placed.{Placed}
 use Rattle.schedule.proofs.Told.{told, next_told, no_fault}
 use Rattle.play.specs.Playing.{order_refusal, obeyed, obeyed_all, refusals}

@@ -1,5 +1,5 @@
 -- What playing a file comes to.
-use Rattle.std.specs.Prelude.{ℕ, ◌+◌, ◌≤◌, List, [], ◌∷◌, length, Ok, Err, Option, Result, IfOk, is_some, if◌then◌else◌, nat_le}
+use Rattle.std.specs.Prelude.{ℕ, ◌+◌, List, [], ◌∷◌, length, Ok, Err, Option, Result, is_some, if◌then◌else◌, nat_le}
 use Rattle.door.specs.Calls.{refusal_of, after, unless}
 use Rattle.door.specs.States.{State, made}
 use Rattle.door.specs.declared.call.Call.TheVariants.{Begin as begin, Step as step, Admit as admit, Leave as leave}
@@ -66,11 +66,6 @@ play_regs high regs (Err fault) = regs
 abbrev pub play_memory : ℕ → List ℕ → List ℕ → Result Contents PlayFault → List ℕ
 play_memory high regs memory (Ok c) = overwritten memory (play_text high regs c)
 play_memory high regs memory (Err fault) = memory
-
--- no report is longer than the least memory
-abbrev pub Fits : Result ℕ PlayFault → Type 0
-Fits (Ok n) = n ≤ report_room
-Fits (Err fault) = Unit {0}
 
 -- the same from a gate in hand, for the orders of a file
 abbrev pub obeyed_by : Result Contents PlayFault → State → State

@@ -1,10 +1,11 @@
-ghost use Rattle.std.specs.Prelude.{◌≡◌, ◌≤◌, length, Ok};
+ghost use Rattle.std.specs.Prelude.{◌≡◌, ◌≤◌, length, Ok, IfOk};
 ghost use Rattle.std.specs.Result.{result_err};
 ghost use Rattle.door.specs.Calls.{refusal_of};
 ghost use Rattle.door.specs.declared.call.Call.TheVariants.{Admit};
 ghost use Rattle.gate.specs.Whole.{whole};
 ghost use Rattle.schedule.specs.Reading.{says, heading_of};
-ghost use Rattle.play.specs.Playing.{order_refusal, obeyed, left_at_once, playable, obeyed_by, refused_by, play_answer, play_regs, play_memory, Fits};
+ghost use Rattle.play.specs.Limits.{report_room};
+ghost use Rattle.play.specs.Playing.{order_refusal, obeyed, left_at_once, playable, obeyed_by, refused_by, play_answer, play_regs, play_memory};
 
 use crate::report::{REPORT_ROOM, report};
 use crate::service::Service;
@@ -81,7 +82,7 @@ fn perform<B: Bank>(file: &[u8], bank: B, memory: &mut [u8], guard: &Service) ->
     ensures answer { result.answer ≡ play_answer B.highest (B.values bank) (playable file.now (length memory.old)) }
     ensures registers { B.values result.bank ≡ play_regs B.highest (B.values bank) (playable file.now (length memory.old)) }
     ensures report { memory.new ≡ play_memory B.highest (B.values bank) memory.old (playable file.now (length memory.old)) }
-    ensures fits { Fits result.answer }
+    ensures fits { IfOk result.answer (λ n. n ≤ report_room) }
 {
     let heading = match ready(file, memory.len()) {
         Ok(heading) => heading,
@@ -105,7 +106,7 @@ pub fn play<B: Bank>(file: &[u8], bank: B, memory: &mut [u8], service: &mut u8) 
     ensures answer { result.answer ≡ play_answer B.highest (B.values bank) (playable file.now (length memory.old)) }
     ensures registers { B.values result.bank ≡ play_regs B.highest (B.values bank) (playable file.now (length memory.old)) }
     ensures report { memory.new ≡ play_memory B.highest (B.values bank) memory.old (playable file.now (length memory.old)) }
-    ensures fits { Fits result.answer }
+    ensures fits { IfOk result.answer (λ n. n ≤ report_room) }
     ensures restored { service.new ≡ service.old }
 {
     let guard = Service::start(service);

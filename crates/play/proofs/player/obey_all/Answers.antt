@@ -1,4 +1,4 @@
-use Rattle.std.proofs.Common.{is_some, if◌then◌else◌, sym, ap, ◌∙◌, rules}
+use Rattle.std.proofs.Common.{sym, ◌∙◌, rules}
 use Rattle.schedule.specs.Reading.{says}
 use Rattle.schedule.proofs.Told.{said}
 use Rattle.play.proofs.Orders.{order_there, obeying_more}

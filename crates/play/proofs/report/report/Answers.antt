@@ -1,4 +1,4 @@
-use Rattle.std.proofs.Common.{◌≡◌, ◌+◌, ℕ, List, ◌++◌, add-one, arith, append_assoc, refl}
+use Rattle.std.proofs.Common.{◌≡◌, ◌+◌, ℕ, List, ◌++◌, add-one, arith, refl}
 use Rattle.std.proofs.lemmas.Grind.{common_steps}
 use Rattle.play.specs.Text.{lines}
 use Rattle.play.proofs.report.report.Goals as goal
