@@ -79,9 +79,12 @@ fn ready(file: &[u8], room: usize) -> Result<Heading, PlayFault>
 // The guard shows that the service byte reads 1 while this works.
 fn perform<B: Bank>(file: &[u8], bank: B, memory: &mut [u8], guard: &Service) -> Played<B>
     requires { guard.now.byte.now ≡ 1 }
-    ensures answer { result.answer ≡ play_answer B.highest (B.values bank) (playable file.now (length memory.old)) }
-    ensures registers { B.values result.bank ≡ play_regs B.highest (B.values bank) (playable file.now (length memory.old)) }
-    ensures report { memory.new ≡ play_memory B.highest (B.values bank) memory.old (playable file.now (length memory.old)) }
+    ensures answer { result.answer
+        ≡ play_answer B.highest (B.values bank) (playable file.now (length memory.old)) }
+    ensures registers { B.values result.bank
+        ≡ play_regs B.highest (B.values bank) (playable file.now (length memory.old)) }
+    ensures report { memory.new
+        ≡ play_memory B.highest (B.values bank) memory.old (playable file.now (length memory.old)) }
     ensures fits { IfOk result.answer (λ n. n ≤ report_room) }
 {
     let heading = match ready(file, memory.len()) {
@@ -103,9 +106,12 @@ fn perform<B: Bank>(file: &[u8], bank: B, memory: &mut [u8], guard: &Service) ->
 // Plays a file on gate 0 over a bank, puts the report at the start of the memory, and hands the bank back.
 // The file is checked whole first: a fault leaves bank and memory as they were. The service byte reads 1 meanwhile.
 pub fn play<B: Bank>(file: &[u8], bank: B, memory: &mut [u8], service: &mut u8) -> Played<B>
-    ensures answer { result.answer ≡ play_answer B.highest (B.values bank) (playable file.now (length memory.old)) }
-    ensures registers { B.values result.bank ≡ play_regs B.highest (B.values bank) (playable file.now (length memory.old)) }
-    ensures report { memory.new ≡ play_memory B.highest (B.values bank) memory.old (playable file.now (length memory.old)) }
+    ensures answer { result.answer
+        ≡ play_answer B.highest (B.values bank) (playable file.now (length memory.old)) }
+    ensures registers { B.values result.bank
+        ≡ play_regs B.highest (B.values bank) (playable file.now (length memory.old)) }
+    ensures report { memory.new
+        ≡ play_memory B.highest (B.values bank) memory.old (playable file.now (length memory.old)) }
     ensures fits { IfOk result.answer (λ n. n ≤ report_room) }
     ensures restored { service.new ≡ service.old }
 {

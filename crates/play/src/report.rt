@@ -63,7 +63,8 @@ pub fn fault_line(fault: PlayFault, memory: &mut [u8]) -> Result<usize, PlayFaul
     deliver(line.as_str(), memory)
 }
 
-// Puts the report of a gate after so many orders, of which some were refused, at the start of the memory, and answers its length.
+// Puts the report of a gate after so many orders, of which some were refused, at the start of the memory,
+// and answers its length.
 pub fn report<B: Bank>(
     gate: &Gate<B>,
     orders: usize,
@@ -71,7 +72,8 @@ pub fn report<B: Bank>(
     memory: &mut [u8],
 ) -> Result<usize, PlayFault>
     ensures answer { result ≡ text_answer memory.old (report_text (whole gate.now) orders refused) }
-    ensures after { memory.new ≡ text_memory memory.old (report_text (whole gate.now) orders refused) }
+    ensures after { memory.new
+        ≡ text_memory memory.old (report_text (whole gate.now) orders refused) }
 {
     let mut page = ArrayString::<PAGE_ROOM>::new();
     page.push_str(first_line(gate, orders, refused).as_str());
