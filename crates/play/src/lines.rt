@@ -1,12 +1,10 @@
-ghost use Rattle.std.specs.Prelude.{◌≡◌, ◌+◌, ◌<◌, ◌≤◌, length};
-ghost use Rattle.gate.specs.Answers.{view_of, largest_count};
+ghost use Rattle.std.specs.Prelude.{◌≡◌, ◌<◌, ◌≤◌, length};
 ghost use Rattle.gate.specs.Whole.{whole};
-ghost use Rattle.door.specs.States.{arm_at};
 ghost use Rattle.play.specs.Reports.{side_text, arm_line, first_line};
 
 use arrayvec::ArrayString;
 use bank::interface::Bank;
-use gate::gate::{Gate, View};
+use gate::gate::Gate;
 use itoa::Buffer;
 
 // No first line is longer, whatever its numbers are.
