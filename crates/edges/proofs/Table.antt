@@ -1,5 +1,6 @@
 -- The cases of the table: one test, computed over the whole table, and what a passed test shows.
 use Rattle.std.proofs.Common.{◌≡◌, ℕ, zero, suc, ◌<◌, ◌≤◌, Bool, true, false, not, ◌&&◌, eqb, leb, List, [], ◌∷◌, length, get_or, Some, None, Ok, Err, codes, Option, Result, refl, ap, ◌∙◌, le_of_suc-le-suc, not-suc-le-zero}
+use Rattle.std.specs.Fmt.{digits}
 use Rattle.std.specs.Str.{bytes_eq}
 use Rattle.std.proofs.lemmas.Slice.Eq.{bytes_eq-Decides}
 use Rattle.std.proofs.lemmas.Bool.{and_parts, not-true, eqb-true, false≢true, cond-true, le-leb}
@@ -18,7 +19,7 @@ use Rattle.door.specs.declared.refusal.Refusal.{Refusal}
 use Rattle.play.specs.Limits.{report_room}
 use Rattle.play.specs.Playing.{playable, play_answer, play_memory, play_text}
 use Rattle.play.specs.Reports.{fault_text, layer_word}
-use Rattle.play.specs.Text.{digits, decimal, overwritten}
+use Rattle.play.specs.Text.{overwritten}
 use Rattle.edges.specs.Cases.{Case, writes, reads, opens, fails, tells, plays, gives, accepts, refuses, frees, counts, highest, registers, Plays, Holds, table, EveryCase}
 
 -- the answer is of one kind, and what it holds passes a test
@@ -183,7 +184,7 @@ each (c ∷ cs) t (suc k) other h = each cs (and_parts (test c) (all_pass cs) t)
 
 -- the table passes: computed
 passed : all_pass table ≡ true
-unfolding orders_from largest digits decimal
+unfolding orders_from largest digits
 passed = refl
 
 pub every_case : EveryCase

@@ -1,20 +1,18 @@
 -- The gate at the end of a play, and what the play answers.
-use Rattle.std.proofs.Common.{◌≡◌, ℕ, ◌^◌, ◌<◌, ◌≤◌, Bool, true, false, cond, leb, List, [], ◌∷◌, length, Ok, Err, sym, refl, ap, ◌∙◌, subst, arith}
-use Rattle.std.proofs.lemmas.Bool.{cond-true, leb-true, le-leb, and_from}
+use Rattle.std.proofs.Common.{◌≡◌, ℕ, ◌^◌, ◌<◌, ◌≤◌, true, List, [], ◌∷◌, length, Ok, Err, IfOk, Result, sym, ap, arith}
+use Rattle.std.proofs.lemmas.Bool.Decides.{nat_tests}
 use Rattle.door.specs.Calls.{refusal_of, after}
 use Rattle.door.specs.declared.call.Call.TheVariants.{Begin as begin, Step as step, Admit as admit, Leave as leave}
 use Rattle.door.specs.States.{State, made}
 use Rattle.door.proofs.Accepted.{unless_both}
 use Rattle.door.proofs.Bounds.{Bounded, after_bounded, made_bounded}
-use Rattle.schedule.specs.Limits.{file_limit}
-use Rattle.schedule.specs.Reading.{Contents, says, heading_of}
-use Rattle.schedule.specs.declared.fault.PlayFault.TheVariants.{LongFile, ShortMemory}
+use Rattle.schedule.specs.Reading.{Contents, says, heading, heading_of}
+use Rattle.schedule.specs.declared.fault.PlayFault.{PlayFault}
 use Rattle.schedule.specs.declared.order.Order.{Order}
 use Rattle.schedule.specs.declared.order.Order.TheVariants.{Begin, Step, Leave}
 use Rattle.schedule.specs.declared.reader.Heading.{Heading}
-use Rattle.schedule.proofs.Told.{told, said, Said}
 use Rattle.play.specs.Limits.{report_room}
-use Rattle.play.specs.Playing.{obeyed, obeyed_all, refusals, obeyed_by, refused_by, playable, start, end, play_text, play_answer, play_regs, play_memory, Fits}
+use Rattle.play.specs.Playing.{obeyed, obeyed_all, refusals, obeyed_by, refused_by, playable, start, end, play_text, play_answer, play_regs, play_memory}
 use Rattle.play.specs.Reports.{report_text, takes, text_answer, text_memory}
 use Rattle.play.specs.Text.{overwritten}
 use Rattle.play.proofs.Fits.{report_fits}
@@ -39,84 +37,41 @@ pub record Ready (file : List ℕ) (room : ℕ) (h : Heading) : Type 0 where
   pub enough : report_room ≤ room
 
 pub ready_from : (file : List ℕ) (room : ℕ) (h : Heading) → Ok h ≡ heading_of (playable file room) → Ready file room h
-ready_from file room h = go (leb (length file) file_limit) (leb report_room room) refl refl
-  where
-    go : (a b : Bool) → leb (length file) file_limit ≡ a → leb report_room room ≡ b → Ok h ≡ heading_of (playable file room) → Ready file room h
-    go true true x y e =
-        record {
-          same = cond-true _ _ _ x ∙ cond-true _ _ _ y;
-          enough = leb-true report_room room y;
-        }
-    go true false x y e =
-        let f : playable file room ≡ Err ShortMemory = ap (λ q. cond q (cond (leb report_room room) (says file) (Err ShortMemory)) (Err LongFile)) x ∙ ap (λ q. cond q (says file) (Err ShortMemory)) y in
-        let g : Ok h ≡ Err ShortMemory = e ∙ ap heading_of f in
-        let z : ◌≡◌ {A = ℕ} 0 1 = cc in absurd (omega arith)
-    go false b x y e =
-        let f : playable file room ≡ Err LongFile = ap (λ q. cond q (cond (leb report_room room) (says file) (Err ShortMemory)) (Err LongFile)) x in
-        let g : Ok h ≡ Err LongFile = e ∙ ap heading_of f in
-        let z : ◌≡◌ {A = ℕ} 0 1 = cc in absurd (omega arith)
+ready_from file room h e = record {
+  same = grind (arith, nat_tests);
+  enough = grind (arith, nat_tests);
+}
 
--- the report is taken
-pub report_taken : (memory : List ℕ) (s : State) (orders no_ones : ℕ) → Bounded s → orders < 2 ^ 64 → no_ones < 2 ^ 64 → report_room ≤ length memory
-    → takes memory (report_text s orders no_ones) ≡ true
-report_taken memory s orders no_ones b o r h =
-    let f = report_fits s orders no_ones b o r in
-    and_from (leb report_room (length memory)) (leb (length (report_text s orders no_ones)) (length memory))
-    (le-leb report_room (length memory) h) (le-leb (length (report_text s orders no_ones)) (length memory) (omega arith))
+-- what a play of a file that says p comes to: what its text is taken as, what the bank holds, and that the text is short
+pub record Outcome (high : ℕ) (regs memory : List ℕ) (p : Result Contents PlayFault) (text now : List ℕ) : Type 0 where
+  pub answer : text_answer memory text ≡ play_answer high regs p
+  pub report : text_memory memory text ≡ play_memory high regs memory p
+  pub registers : now ≡ play_regs high regs p
+  pub fits : IfOk (text_answer memory text) (λ n. n ≤ report_room)
 
--- what a play comes to: what its text is taken as, what the bank holds, and that the text is short
-pub record Outcome (high : ℕ) (regs memory file text now : List ℕ) : Type 0 where
-  pub answer : text_answer memory text ≡ play_answer high regs (playable file (length memory))
-  pub report : text_memory memory text ≡ play_memory high regs memory (playable file (length memory))
-  pub registers : now ≡ play_regs high regs (playable file (length memory))
-  pub fits : Fits (text_answer memory text)
+taken : (high : ℕ) (regs memory : List ℕ) (c : Contents) (text now : List ℕ) → text ≡ play_text high regs c → now ≡ (end high regs c).regs
+    → report_room ≤ length memory → length text ≤ report_room → Outcome high regs memory (Ok c) text now
+taken high regs memory c text now text_is now_is room short =
+    let takes_it : takes memory text ≡ true = grind (arith, nat_tests) in
+    record {
+      answer = rw takes_it (ap (λ t. Ok (length t)) text_is);
+      report = rw takes_it (ap (overwritten memory) text_is);
+      registers = now_is;
+      fits = rw takes_it short;
+    }
 
 -- once the gate is made and the orders are obeyed
-module _ (high : ℕ) (regs memory file : List ℕ) (h : Heading) (e : Ok h ≡ heading_of (playable file (length memory)))
-    (g₀ g₁ : State) (no_ones : ℕ) (made_is : g₀ ≡ made high 0 h.arms regs) (after_is : g₁ ≡ obeyed_by (says file) g₀)
-    (refused_is : no_ones ≡ refused_by (says file) g₀) (few : h.orders < 2 ^ 64) (fewer : no_ones < 2 ^ 64) where
-  says_it : Said (playable file (length memory)) h
-  says_it = said (playable file (length memory)) h e
+module _ (high : ℕ) (regs memory file : List ℕ) (h : Heading) (g₀ g₁ : State) (no_ones : ℕ) (made_is : g₀ ≡ made high 0 h.arms regs)
+    (after_is : g₁ ≡ obeyed_by (says file) g₀) (refused_is : no_ones ≡ refused_by (says file) g₀) (fewer : no_ones < 2 ^ 64)
+    (few : h.orders < 2 ^ 64) (room : report_room ≤ length memory) where
+  of_contents : (c : Contents) → says file ≡ Ok c → h ≡ heading c → Outcome high regs memory (Ok c) (report_text g₁ h.orders no_ones) g₁.regs
+  of_contents c says_is h_is =
+      let end_is : g₁ ≡ end high regs c = rw (after_is, says_is, made_is, h_is) in
+      let no_ones_is : no_ones ≡ refusals (start high regs c) c.orders = rw (refused_is, says_is, made_is, h_is) in
+      let text_is : report_text g₁ h.orders no_ones ≡ play_text high regs c = rw (end_is, no_ones_is, h_is) in
+      let bounded : Bounded g₁ = rw end_is (end_bounded high regs c) in
+      taken high regs memory c _ _ text_is (ap (λ s. s.regs) end_is) room (report_fits g₁ h.orders no_ones bounded few fewer)
 
-  abbrev contents : Contents
-  contents = record { arms = h.arms; orders = told (playable file (length memory)) }
-
-  here : Ready file (length memory) h
-  here = ready_from file (length memory) h e
-
-  file_is : says file ≡ Ok contents
-  file_is = sym here.same ∙ says_it.is
-
-  end_is : g₁ ≡ end high regs contents
-  end_is = after_is ∙ ap (λ r. obeyed_by r g₀) file_is ∙ ap (λ s. obeyed_all s contents.orders) made_is
-
-  abbrev text : List ℕ
-  text = report_text g₁ h.orders no_ones
-
-  text_is : text ≡ play_text high regs contents
-  text_is =
-      ap (λ s. report_text s h.orders no_ones) end_is
-      ∙ ap (λ k. report_text (end high regs contents) k no_ones) (sym says_it.all)
-      ∙ ap (report_text (end high regs contents) (length contents.orders))
-      (refused_is ∙ ap (λ r. refused_by r g₀) file_is ∙ ap (λ s. refusals s contents.orders) made_is)
-
-  bounded : Bounded g₁
-  bounded = subst Bounded (sym end_is) (end_bounded high regs contents)
-
-  taken : takes memory text ≡ true
-  taken = report_taken memory g₁ h.orders no_ones bounded few fewer here.enough
-
-  answer_taken : text_answer memory text ≡ Ok (length text)
-  answer_taken = cond-true (takes memory text) (Ok (length text)) (Err ShortMemory) taken
-
-  pub outcome : Outcome high regs memory file text g₁.regs
-  outcome =
-      record {
-        answer = answer_taken ∙ ap (λ t. Ok (length t)) text_is ∙ sym (ap (play_answer high regs) says_it.is);
-        report =
-            cond-true (takes memory text) (overwritten memory text) memory taken
-            ∙ ap (overwritten memory) text_is
-            ∙ sym (ap (play_memory high regs memory) says_it.is);
-        registers = ap (λ s. s.regs) end_is ∙ sym (ap (play_regs high regs) says_it.is);
-        fits = subst Fits (sym answer_taken) (report_fits g₁ h.orders no_ones bounded few fewer);
-      }
+  pub outcome : (p : Result Contents PlayFault) → p ≡ says file → Ok h ≡ heading_of p → Outcome high regs memory p (report_text g₁ h.orders no_ones) g₁.regs
+  outcome (Ok c) p_is h_is = of_contents c (sym p_is) cc
+  outcome (Err fault) p_is h_is = absurd (grind arith)

@@ -1,58 +1,53 @@
 -- A report fits the least memory that is asked for.
-use Rattle.std.proofs.Common.{ℕ, zero, suc, ◌+◌, ◌-◌, ◌*◌, ◌^◌, ◌<◌, ◌≤◌, eqb, List, length, get_or, Some, None, Option, mul-suc, arith, length-append}
-use Rattle.std.proofs.lemmas.Bool.{cond_both}
+use Rattle.std.proofs.Common.{ℕ, zero, suc, ◌+◌, ◌-◌, ◌*◌, ◌^◌, ◌<◌, ◌≤◌, List, length, slice_index, Some, None, Option, mul-suc, arith, length-append}
+use Rattle.std.proofs.lemmas.Fmt.{length-decimal-le}
 use Rattle.std.proofs.lemmas.Bool.Decides.{nat_tests}
 use Rattle.door.specs.Limits.{arm_limit, tally_limit}
-use Rattle.door.specs.Positions.{group, side_of}
+use Rattle.door.specs.Positions.{side_of}
 use Rattle.door.specs.States.{State, arm_at, bit_of}
 use Rattle.door.proofs.Bounds.{Bounded}
 use Rattle.play.specs.Limits.{report_room}
 use Rattle.play.specs.Text.{lines}
 use Rattle.gate.specs.Answers.{largest_count}
 use Rattle.play.specs.Reports.{side_text, arm_line, first_line, report_text}
-use Rattle.play.proofs.Decimals.{decimal_within}
 
 side_short : (s : Option ℕ) → side_of s ≤ 1 → length (side_text s) ≤ 1
-side_short (Some v) h = decimal_within 1 v (omega arith) (omega arith) (omega arith)
+side_short (Some v) h = omega (arith, length-decimal-le 1 v)
 side_short None h = omega arith
 
-largest_bounded : (row : List ℕ) (n : ℕ) → ((b : ℕ) → get_or row b 0 ≤ tally_limit) → largest_count row n ≤ tally_limit
+largest_bounded : (row : List ℕ) (n : ℕ) → ((b : ℕ) → slice_index row b ≤ tally_limit) → largest_count row n ≤ tally_limit
 largest_bounded row zero h = omega arith
-largest_bounded row (suc n) h = let k = largest_bounded row n h in let l = h n in omega arith
+largest_bounded row (suc n) h = omega (arith, largest_bounded row n h, h n)
 
 bit_short : (s : State) → Bounded s → bit_of s ≤ 1
-bit_short s h =
-    cond_both (eqb s.n 0) 0 (get_or s.regs group 0) (λ v. v ≤ 1) (λ _. omega arith)
-    (λ e. let some : 1 ≤ s.n = grind (arith, nat_tests) in h.bit some)
+bit_short s h = grind (arith, nat_tests, h.bit)
 
 line_short : (s : State) (k : ℕ) → Bounded s → k < arm_limit → length (arm_line s k) ≤ 22
 line_short s k h l =
     let a = arm_at s (k + 1) in
     let b = h.each ((k + 1) - 1) in
-    let most = largest_bounded a.row s.n b.counts in
-    let begun = b.begun in
-    let arm = decimal_within 2 (k + 1) (omega arith) (omega arith) (omega arith) in
     let side = side_short a.side b.bit in
-    let visits = decimal_within 10 a.visits (omega arith) (omega arith) (omega arith) in
-    let count = decimal_within 3 (largest_count a.row s.n) (omega arith) (omega arith) (omega arith) in
+    let begun = b.begun in
+    let most = largest_bounded a.row s.n b.counts in
+    let arm_digits = length-decimal-le 2 (k + 1) in
+    let visit_digits = length-decimal-le 10 a.visits in
+    let count_digits = length-decimal-le 3 (largest_count a.row s.n) in
     simp length-append (omega arith)
 
 lines_short : (line : ℕ → List ℕ) (most n : ℕ) → ((k : ℕ) → k < n → length (line k) ≤ most) → length (lines line n) ≤ most * n
 lines_short line most zero h = omega arith
 lines_short line most (suc n) h =
     let before = lines_short line most n (λ k l. h k (omega arith)) in
-    let last = h n (omega arith) in
-    let sum = mul-suc most n in
-    simp length-append (omega arith)
+    simp length-append (omega (arith, before, h n, mul-suc most n))
 
 first_short : (s : State) (orders refused : ℕ) → Bounded s → orders < 2 ^ 64 → refused < 2 ^ 64 → length (first_line s orders refused) ≤ 71
 first_short s orders refused h o r =
     let few = h.few in
-    let one = bit_short s h in
-    let arms = decimal_within 2 s.n (omega arith) (omega arith) (omega arith) in
-    let all = decimal_within 20 orders (omega arith) (omega arith) o in
-    let no_ones = decimal_within 20 refused (omega arith) (omega arith) r in
-    let bit = decimal_within 1 (bit_of s) (omega arith) (omega arith) (omega arith) in
+    let bit = bit_short s h in
+    let arm_digits = length-decimal-le 2 s.n in
+    let order_digits = length-decimal-le 20 orders in
+    let refused_digits = length-decimal-le 20 refused in
+    let bit_digits = length-decimal-le 1 (bit_of s) in
     simp length-append (omega arith)
 
 pub report_fits : (s : State) (orders refused : ℕ) → Bounded s → orders < 2 ^ 64 → refused < 2 ^ 64 → length (report_text s orders refused) ≤ report_room
@@ -60,5 +55,4 @@ report_fits s orders refused h o r =
     let few = h.few in
     let first = first_short s orders refused h o r in
     let rest = lines_short (arm_line s) 22 s.n (λ k l. line_short s k h (omega arith)) in
-    let sum = length-append (first_line s orders refused) (lines (arm_line s) s.n) in
-    omega arith
+    omega (arith, length-append (first_line s orders refused) (lines (arm_line s) s.n))

@@ -1,26 +1,43 @@
 -- Orders obeyed one after another.
-use Rattle.std.proofs.Common.{◌≡◌, ◌+◌, List, ◌∷◌, Ok, Result, sym, ap, ◌∙◌}
-use Rattle.door.specs.Calls.{unless}
+use Rattle.std.proofs.Common.{◌≡◌, ℕ, ◌+◌, ◌<◌, ◌≤◌, List, length, drop, Ok, Err, Result, is_some, IsOk, if◌then◌else◌, sym, ap, ◌∙◌, arith, rules, length-drop}
+use Rattle.std.proofs.lemmas.Bool.Decides.{nat_tests}
 use Rattle.door.specs.States.{State}
-use Rattle.schedule.specs.Reading.{Contents, heading_of}
-use Rattle.schedule.specs.declared.fault.PlayFault.{PlayFault}
-use Rattle.schedule.specs.declared.order.Order.{Order}
-use Rattle.schedule.specs.declared.reader.Heading.{Heading}
-use Rattle.schedule.proofs.Told.{told, said}
-use Rattle.play.specs.Playing.{order_refusal, obeyed, obeyed_all, refusals, obeyed_by, refused_by}
+use Rattle.schedule.specs.Reading.{says, orders_from, order_from}
+use Rattle.schedule.specs.declared.fault.ScheduleFault.{ScheduleFault}
+use Rattle.schedule.specs.declared.reader.Placed.{Placed}
+use Rattle.schedule.proofs.Told.{told, next_told, no_fault}
+use Rattle.play.specs.Playing.{order_refusal, obeyed, obeyed_all, refusals}
+
+-- i orders of a file are obeyed: the rest of the file, from this place on, says the rest of the orders,
+-- and what the gate makes of them from here is what it makes of all from the start
+pub record Obeying (file : List ℕ) (start now : State) (at i refused : ℕ) : Type 0 where
+  pub rest : orders_from at (i + 1) (drop at file) ≡ Ok (drop i (told (says file)))
+  pub few : refused ≤ i
+  pub count : refused + refusals now (drop i (told (says file))) ≡ refusals start (told (says file))
+  pub end : obeyed_all now (drop i (told (says file))) ≡ obeyed_all start (told (says file))
 
 -- one order more
-module _ (s t : State) (rest next : List Order) (o : Order) (e : rest ≡ o ∷ next) (moved : t ≡ obeyed s o) where
-  pub obeyed_more : obeyed_all t next ≡ obeyed_all s rest
-  obeyed_more = ap (λ x. obeyed_all x next) moved ∙ sym (ap (obeyed_all s) e)
+pub obeying_more : (file : List ℕ) (start now next : State) (at i refused more : ℕ) (p : Placed) → Obeying file start now at i refused
+    → order_from at (i + 1) (drop at file) ≡ Ok p → next ≡ obeyed now p.order
+    → more ≡ if is_some (order_refusal now p.order) then 1 else 0
+    → Obeying file start next p.next (i + 1) (refused + more)
+obeying_more file start now next at i refused more p h read moved counted =
+    let rest = drop (i + 1) (told (says file)) in
+    let n = next_told file at i (told (says file)) p h.rest read in
+    let one : more ≤ 1 = grind (arith, nat_tests) in
+    let split = ap (refusals now) n.1 in
+    let further = ap (λ s. refusals s rest) moved in
+    record {
+      rest = n.0;
+      few = omega (arith, h.few);
+      count = omega (arith, split, further, h.count);
+      end = ap (λ s. obeyed_all s rest) moved ∙ sym (ap (obeyed_all now) n.1) ∙ h.end;
+    }
 
-  pub refusals_more : unless (order_refusal s o) 0 1 + refusals t next ≡ refusals s rest
-  refusals_more = ap (λ x. unless (order_refusal s o) 0 1 + refusals x next) moved ∙ sym (ap (refusals s) e)
-
--- all of them
-module _ (r : Result Contents PlayFault) (h : Heading) (e : Ok h ≡ heading_of r) (from : State) where
-  pub obeyed_told : obeyed_by r from ≡ obeyed_all from (told r)
-  obeyed_told = ap (λ x. obeyed_by x from) (said r h e).is
-
-  pub refused_told : refused_by r from ≡ refusals from (told r)
-  refused_told = ap (λ x. refused_by x from) (said r h e).is
+-- an order that the file says is there
+pub order_there : (file : List ℕ) (start now : State) (at i refused : ℕ) (r : Result Placed ScheduleFault) → Obeying file start now at i refused
+    → i < length (told (says file)) → r ≡ order_from at (i + 1) (drop at file) → IsOk r
+order_there file start now at i refused (Ok p) h l e = search rules
+order_there file start now at i refused (Err f) h l e =
+    let left : 0 < length (drop i (told (says file))) = omega (arith, length-drop i (told (says file))) in
+    absurd (no_fault at (i + 1) (drop at file) (drop i (told (says file))) f h.rest left (sym e))

@@ -4,7 +4,3 @@ use Rattle.std.specs.Prelude.{ℕ}
 -- the least memory for a report or a fault line
 abbrev pub report_room : ℕ
 report_room = 1024
-
--- the most bytes that a page holds
-abbrev pub page_room : ℕ
-page_room = 2048

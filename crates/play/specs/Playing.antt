@@ -1,5 +1,5 @@
 -- What playing a file comes to.
-use Rattle.std.specs.Prelude.{ℕ, ◌+◌, ◌≤◌, cond, List, [], ◌∷◌, length, Ok, Err, Option, Result, nat_le}
+use Rattle.std.specs.Prelude.{ℕ, ◌+◌, List, [], ◌∷◌, length, Ok, Err, Option, Result, is_some, if◌then◌else◌, nat_le}
 use Rattle.door.specs.Calls.{refusal_of, after, unless}
 use Rattle.door.specs.States.{State, made}
 use Rattle.door.specs.declared.call.Call.TheVariants.{Begin as begin, Step as step, Admit as admit, Leave as leave}
@@ -37,12 +37,12 @@ obeyed_all s (o ∷ os) = obeyed_all (obeyed s o) os
 
 abbrev pub refusals : State → List Order → ℕ
 refusals s [] = 0
-refusals s (o ∷ os) = unless (order_refusal s o) 0 1 + refusals (obeyed s o) os
+refusals s (o ∷ os) = (if is_some (order_refusal s o) then 1 else 0) + refusals (obeyed s o) os
 
 -- what a file says, to a play with so much report memory: too long, then too little memory, then its first fault
 abbrev pub playable : List ℕ → ℕ → Result Contents PlayFault
 playable file room =
-    cond (nat_le (length file) file_limit) (cond (nat_le report_room room) (says file) (Err ShortMemory)) (Err LongFile)
+    if nat_le (length file) file_limit then (if nat_le report_room room then says file else Err ShortMemory) else Err LongFile
 
 -- gate 0 over a bank, made for a file and after its orders
 abbrev pub start : ℕ → List ℕ → Contents → State
@@ -66,11 +66,6 @@ play_regs high regs (Err fault) = regs
 abbrev pub play_memory : ℕ → List ℕ → List ℕ → Result Contents PlayFault → List ℕ
 play_memory high regs memory (Ok c) = overwritten memory (play_text high regs c)
 play_memory high regs memory (Err fault) = memory
-
--- no report is longer than the least memory
-abbrev pub Fits : Result ℕ PlayFault → Type 0
-Fits (Ok n) = n ≤ report_room
-Fits (Err fault) = Unit {0}
 
 -- the same from a gate in hand, for the orders of a file
 abbrev pub obeyed_by : Result Contents PlayFault → State → State

@@ -1,5 +1,5 @@
 -- The text of a report and of a fault, and the memory that takes it.
-use Rattle.std.specs.Prelude.{ℕ, ◌+◌, Bool, cond, ◌&&◌, List, [], ◌∷◌, ◌++◌, length, Some, None, Ok, Err, codes, Option, Result, nat_le}
+use Rattle.std.specs.Prelude.{ℕ, ◌+◌, Bool, if◌then◌else◌, ◌&&◌, List, [], ◌∷◌, ◌++◌, length, Some, None, Ok, Err, codes, decimal, Option, Result, nat_le}
 use Rattle.door.specs.Positions.{letter_of}
 use Rattle.door.specs.States.{State, arm_at, phase_at, bit_of}
 use Rattle.gate.specs.Answers.{largest_count}
@@ -9,7 +9,7 @@ use Rattle.schedule.specs.declared.fault.Layer.TheVariants as L
 use Rattle.schedule.specs.declared.fault.PlayFault.{PlayFault}
 use Rattle.schedule.specs.declared.fault.PlayFault.TheVariants.{ShortMemory}
 use Rattle.play.specs.Limits.{report_room}
-use Rattle.play.specs.Text.{decimal, lines, overwritten}
+use Rattle.play.specs.Text.{lines, overwritten}
 
 -- a side, or a dash where it is missing
 abbrev pub side_text : Option ℕ → List ℕ
@@ -19,8 +19,9 @@ side_text None = codes "-"
 -- the line of arm k + 1
 abbrev pub arm_line : State → ℕ → List ℕ
 arm_line s k =
-    decimal (k + 1) ++ codes " " ++ (letter_of (phase_at s (k + 1)) ∷ []) ++ codes " " ++ side_text (arm_at s (k + 1)).side
-    ++ codes " " ++ decimal (arm_at s (k + 1)).visits ++ codes " " ++ decimal (largest_count (arm_at s (k + 1)).row s.n) ++ codes "\n"
+    decimal (k + 1) ++ codes " " ++ (letter_of (phase_at s (k + 1)) ∷ [])
+    ++ codes " " ++ side_text (arm_at s (k + 1)).side ++ codes " " ++ decimal (arm_at s (k + 1)).visits
+    ++ codes " " ++ decimal (largest_count (arm_at s (k + 1)).row s.n) ++ codes "\n"
 
 abbrev pub first_line : State → ℕ → ℕ → List ℕ
 first_line s orders refused =
@@ -45,7 +46,7 @@ abbrev pub takes : List ℕ → List ℕ → Bool
 takes memory text = nat_le report_room (length memory) && nat_le (length text) (length memory)
 
 abbrev pub text_answer : List ℕ → List ℕ → Result ℕ PlayFault
-text_answer memory text = cond (takes memory text) (Ok (length text)) (Err ShortMemory)
+text_answer memory text = if takes memory text then Ok (length text) else Err ShortMemory
 
 abbrev pub text_memory : List ℕ → List ℕ → List ℕ
-text_memory memory text = cond (takes memory text) (overwritten memory text) memory
+text_memory memory text = if takes memory text then overwritten memory text else memory

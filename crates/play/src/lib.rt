@@ -3,8 +3,8 @@
 
 // The service byte, held at 1 during a play.
 pub mod service;
-// A page of text that is being written.
-mod page;
+// The lines of a report.
+mod lines;
 // The text of a report, and of a fault.
 pub mod report;
 // Playing a file.

@@ -1,15 +1,15 @@
-ghost use Rattle.std.specs.Prelude.{◌≡◌, ◌≤◌, length, Ok};
+ghost use Rattle.std.specs.Prelude.{◌≡◌, ◌≤◌, length, Ok, IfOk};
 ghost use Rattle.std.specs.Result.{result_err};
-ghost use Rattle.door.specs.Calls.{refusal_of, unless};
+ghost use Rattle.door.specs.Calls.{refusal_of};
 ghost use Rattle.door.specs.declared.call.Call.TheVariants.{Admit};
 ghost use Rattle.gate.specs.Whole.{whole};
 ghost use Rattle.schedule.specs.Reading.{says, heading_of};
-ghost use Rattle.play.specs.Playing.{order_refusal, obeyed, left_at_once, playable, obeyed_by, refused_by, play_answer, play_regs, play_memory, Fits};
+ghost use Rattle.play.specs.Limits.{report_room};
+ghost use Rattle.play.specs.Playing.{order_refusal, obeyed, left_at_once, playable, obeyed_by, refused_by, play_answer, play_regs, play_memory};
 
 use crate::report::{REPORT_ROOM, report};
 use crate::service::Service;
 use bank::interface::Bank;
-use door::position::Phase;
 use door::refusal::Refusal;
 use gate::gate::Gate;
 use schedule::fault::PlayFault;
@@ -24,28 +24,14 @@ pub struct Played<B> {
     pub answer: Result<usize, PlayFault>,
 }
 
-// Admits an arm and lets it leave at once; the refusal, if any.
-fn leave_at_once<B: Bank>(gate: &mut Gate<B>, arm: usize) -> Option<Refusal>
-    ensures answer { result ≡ refusal_of (whole gate.old) (Admit arm) }
+// Admits an arm and lets it leave at once, unless the gate refuses it.
+fn leave_at_once<B: Bank>(gate: &mut Gate<B>, arm: usize) -> Result<(), Refusal>
+    ensures answer { result_err result ≡ refusal_of (whole gate.old) (Admit arm) }
     ensures after { whole gate.new ≡ left_at_once (whole gate.old) arm }
 {
-    match gate.admit(arm) {
-        Ok(pass) => match gate.leave(pass) {
-            Ok(_) => None,
-            Err(_) => unreachable(),
-        },
-        Err(refusal) => Some(refusal),
-    }
-}
-
-// The refusal in an answer, if any.
-fn refusal(answer: Result<Phase, Refusal>) -> Option<Refusal>
-    ensures { result ≡ result_err answer }
-{
-    match answer {
-        Ok(_) => None,
-        Err(refusal) => Some(refusal),
-    }
+    let pass = gate.admit(arm)?;
+    gate.leave(pass).unwrap();
+    Ok(())
 }
 
 // Obeys one order, unless the gate refuses it.
@@ -54,20 +40,9 @@ fn obey<B: Bank>(gate: &mut Gate<B>, order: Order) -> Option<Refusal>
     ensures after { whole gate.new ≡ obeyed (whole gate.old) order }
 {
     match order {
-        Order::Begin(arm) => refusal(gate.begin(usize::from(arm))),
-        Order::Step(arm) => refusal(gate.step(usize::from(arm))),
-        Order::Leave(arm) => leave_at_once(gate, usize::from(arm)),
-    }
-}
-
-// An order that was refused counts.
-fn count(refusal: Option<Refusal>) -> usize
-    ensures value { result ≡ unless refusal 0 1 }
-    ensures bound { result ≤ 1 }
-{
-    match refusal {
-        Some(_) => 1,
-        None => 0,
+        Order::Begin(arm) => gate.begin(usize::from(arm)).err(),
+        Order::Step(arm) => gate.step(usize::from(arm)).err(),
+        Order::Leave(arm) => leave_at_once(gate, usize::from(arm)).err(),
     }
 }
 
@@ -77,17 +52,11 @@ fn obey_all<B: Bank>(gate: &mut Gate<B>, file: &[u8], heading: Heading) -> usize
     ensures refused { result ≡ refused_by (says file.now) (whole gate.old) }
     ensures after { whole gate.new ≡ obeyed_by (says file.now) (whole gate.old) }
 {
-    let mut at = match arms_of(file) {
-        Ok(first) => first.next,
-        Err(_) => unreachable(),
-    };
+    let mut at = arms_of(file).unwrap().next;
     let mut refused = 0;
     for i in 0..heading.orders {
-        let placed = match order_at(file, at, i + 1) {
-            Ok(placed) => placed,
-            Err(_) => unreachable(),
-        };
-        refused += count(obey(gate, placed.order));
+        let placed = order_at(file, at, i + 1).unwrap();
+        refused += usize::from(obey(gate, placed.order).is_some());
         at = placed.next;
     }
     refused
@@ -110,10 +79,13 @@ fn ready(file: &[u8], room: usize) -> Result<Heading, PlayFault>
 // The guard shows that the service byte reads 1 while this works.
 fn perform<B: Bank>(file: &[u8], bank: B, memory: &mut [u8], guard: &Service) -> Played<B>
     requires { guard.now.byte.now ≡ 1 }
-    ensures answer { result.answer ≡ play_answer B.highest (B.values bank) (playable file.now (length memory.old)) }
-    ensures registers { B.values result.bank ≡ play_regs B.highest (B.values bank) (playable file.now (length memory.old)) }
-    ensures report { memory.new ≡ play_memory B.highest (B.values bank) memory.old (playable file.now (length memory.old)) }
-    ensures fits { Fits result.answer }
+    ensures answer { result.answer
+        ≡ play_answer B.highest (B.values bank) (playable file.now (length memory.old)) }
+    ensures registers { B.values result.bank
+        ≡ play_regs B.highest (B.values bank) (playable file.now (length memory.old)) }
+    ensures report { memory.new
+        ≡ play_memory B.highest (B.values bank) memory.old (playable file.now (length memory.old)) }
+    ensures fits { IfOk result.answer (λ n. n ≤ report_room) }
 {
     let heading = match ready(file, memory.len()) {
         Ok(heading) => heading,
@@ -134,10 +106,13 @@ fn perform<B: Bank>(file: &[u8], bank: B, memory: &mut [u8], guard: &Service) ->
 // Plays a file on gate 0 over a bank, puts the report at the start of the memory, and hands the bank back.
 // The file is checked whole first: a fault leaves bank and memory as they were. The service byte reads 1 meanwhile.
 pub fn play<B: Bank>(file: &[u8], bank: B, memory: &mut [u8], service: &mut u8) -> Played<B>
-    ensures answer { result.answer ≡ play_answer B.highest (B.values bank) (playable file.now (length memory.old)) }
-    ensures registers { B.values result.bank ≡ play_regs B.highest (B.values bank) (playable file.now (length memory.old)) }
-    ensures report { memory.new ≡ play_memory B.highest (B.values bank) memory.old (playable file.now (length memory.old)) }
-    ensures fits { Fits result.answer }
+    ensures answer { result.answer
+        ≡ play_answer B.highest (B.values bank) (playable file.now (length memory.old)) }
+    ensures registers { B.values result.bank
+        ≡ play_regs B.highest (B.values bank) (playable file.now (length memory.old)) }
+    ensures report { memory.new
+        ≡ play_memory B.highest (B.values bank) memory.old (playable file.now (length memory.old)) }
+    ensures fits { IfOk result.answer (λ n. n ≤ report_room) }
     ensures restored { service.new ≡ service.old }
 {
     let guard = Service::start(service);

@@ -1,0 +1,69 @@
+ghost use Rattle.std.specs.Prelude.{◌≡◌, ◌<◌, ◌≤◌, length};
+ghost use Rattle.gate.specs.Whole.{whole};
+ghost use Rattle.play.specs.Reports.{side_text, arm_line, first_line};
+
+use arrayvec::ArrayString;
+use bank::interface::Bank;
+use gate::gate::Gate;
+use itoa::Buffer;
+
+// No first line is longer, whatever its numbers are.
+pub(crate) const FIRST_ROOM: usize = 128;
+
+// No line of an arm is longer.
+pub(crate) const LINE_ROOM: usize = 60;
+
+// A side, or a dash where it is missing.
+fn side_text(side: Option<u64>, digits: &mut Buffer) -> &str
+    ensures text { result.now ≡ side_text side }
+    ensures short { length result.now ≤ 20 }
+{
+    match side {
+        Some(bit) => digits.format(bit),
+        None => "-",
+    }
+}
+
+// The line on the whole play.
+pub(crate) fn first_line<B: Bank>(
+    gate: &Gate<B>,
+    orders: usize,
+    refused: usize,
+) -> ArrayString<FIRST_ROOM>
+    ensures { result.bytes ≡ first_line (whole gate.now) orders refused }
+{
+    let mut digits = Buffer::new();
+    let mut line = ArrayString::new();
+    line.push_str("arms ");
+    line.push_str(digits.format(gate.arm_count()));
+    line.push_str(" orders ");
+    line.push_str(digits.format(orders));
+    line.push_str(" refused ");
+    line.push_str(digits.format(refused));
+    line.push_str(" bit ");
+    line.push_str(digits.format(gate.bit()));
+    line.push_str("\n");
+    line
+}
+
+// The line of arm k + 1: arm, phase, side, visits and the largest count of its row.
+pub(crate) fn arm_line<B: Bank>(gate: &Gate<B>, k: usize) -> ArrayString<LINE_ROOM>
+    requires { k < gate.now.n }
+    ensures { result.bytes ≡ arm_line (whole gate.now) k }
+{
+    let arm = k + 1;
+    let view = gate.look(arm).unwrap();
+    let mut digits = Buffer::new();
+    let mut line = ArrayString::new();
+    line.push_str(digits.format(arm));
+    line.push_str(" ");
+    line.push(char::from(view.phase.letter()));
+    line.push_str(" ");
+    line.push_str(side_text(view.side, &mut digits));
+    line.push_str(" ");
+    line.push_str(digits.format(view.visits));
+    line.push_str(" ");
+    line.push_str(digits.format(gate.most_passed(arm).unwrap()));
+    line.push_str("\n");
+    line
+}
