@@ -1,22 +1,19 @@
 -- Lists of calls that lead from one state to another.
-use Rattle.std.proofs.Common.{◌≡◌, ℕ, List, [], ◌∷◌, ◌++◌, sym, refl, ap, ◌∙◌, subst}
+use Rattle.std.proofs.Common.{◌≡◌, ℕ, List, [], ◌∷◌, ◌++◌, sym, ap, ◌∙◌, subst}
 use Rattle.door.specs.Calls.{after, run}
 use Rattle.door.specs.Law.{Fair}
 use Rattle.door.specs.States.{State, made}
 use Rattle.door.specs.declared.call.Call.{Call}
 use Rattle.door.proofs.Fairness.{fair}
+use Rattle.door.proofs.machine.Reached.{run_append}
 use Rattle.plantday.specs.Day.{Called, FairDay}
-
-run_then : (s : State) (xs ys : List Call) → run s (xs ++ ys) ≡ run (run s xs) ys
-run_then s [] ys = refl
-run_then s (x ∷ xs) ys = run_then (after s x) xs ys
 
 pub once : {s t : State} (c : Call) → t ≡ after s c → Called s t
 once c e = (c ∷ [], e)
 
 infixl 5 ◌then◌
 pub ◌then◌ : {s t u : State} → Called s t → Called t u → Called s u
-◌then◌ {s} {t} {u} a b = (a.0 ++ b.0, b.1 ∙ ap (λ x. run x b.0) a.1 ∙ sym (run_then s a.0 b.0))
+◌then◌ {s} {t} {u} a b = (a.0 ++ b.0, b.1 ∙ ap (λ x. run x b.0) a.1 ∙ sym (run_append a.0 b.0 s))
 
 -- a gate on which only calls were made is fair
 pub fair_after : (high number wanted : ℕ) (regs : List ℕ) {t : State} → Called (made high number wanted regs) t → FairDay (made high number wanted regs) t

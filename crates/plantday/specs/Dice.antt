@@ -1,5 +1,5 @@
 -- Numbers that look drawn by chance.
-use Rattle.std.specs.Prelude.{ℕ, ◌+◌, ◌*◌, ◌/◌, ◌%◌, ◌^◌, cond, ◌==◌}
+use Rattle.std.specs.Prelude.{ℕ, ◌+◌, ◌*◌, ◌/◌, ◌%◌, ◌^◌, if◌then◌else◌, ◌==◌}
 
 -- the state of the dice after a roll
 abbrev pub rolled : ℕ → ℕ
@@ -7,4 +7,4 @@ rolled state = (state * 6364136223846793005 + 1442695040888963407) % 2 ^ 64
 
 -- what the dice then show
 abbrev pub face : ℕ → ℕ → ℕ
-face state sides = cond (sides == 0) 0 ((state / 2 ^ 33) % sides)
+face state sides = if sides == 0 then 0 else (state / 2 ^ 33) % sides

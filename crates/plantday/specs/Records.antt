@@ -1,6 +1,6 @@
 -- What a day comes to for each arm, and how its rounds are counted.
-use Rattle.std.specs.Prelude.{ℕ, ◌+◌, ◌-◌, ◌^◌, min, max, Bool, false, cond, not, ◌||◌, List, map, set, replicate, Ok, Err, Result, nat_lt, slice_index, slice_index_or, slice_set}
-use Rattle.std.specs.List.{range_with_len}
+use Rattle.std.specs.Prelude.{ℕ, ◌+◌, ◌-◌, ◌^◌, min, max, Bool, false, if◌then◌else◌, not, List, map, replicate, Ok, Err, Result, nat_lt, slice_index, slice_set}
+use Rattle.std.specs.List.{list_any, range_with_len}
 use Rattle.door.specs.History.{is_in}
 use Rattle.door.specs.States.{State, is_arm}
 use Rattle.door.specs.Tallies.{same_phase}
@@ -32,70 +32,41 @@ fresh =
 
 -- a reading of arm k + 1 is in the table
 abbrev pub with_delivery : ℕ → Record → Record
-with_delivery k r =
-    record {
-      delivered = slice_set r.delivered k (more (slice_index r.delivered k));
-      passed = r.passed;
-      waited = r.waited;
-      since = r.since;
-      due = r.due;
-      rounds = r.rounds;
-    }
+with_delivery k r = record r { delivered = slice_set r.delivered k (more (slice_index r.delivered k)) }
 
 -- arm k + 1 ended its doorway: its wait begins with the next round
 abbrev pub with_wait : ℕ → Record → Record
-with_wait k r =
-    record {
-      delivered = r.delivered;
-      passed = r.passed;
-      waited = r.waited;
-      since = slice_set r.since k (more r.rounds);
-      due = r.due;
-      rounds = r.rounds;
-    }
+with_wait k r = record r { since = slice_set r.since k (more r.rounds) }
 
 -- arm k + 1 went inside, past which others went `most` times: the longest wait and the largest count are kept
 abbrev pub with_entry : ℕ → ℕ → Record → Record
 with_entry k most r =
-    record {
-      delivered = r.delivered;
+    record r {
       passed = slice_set r.passed k (max (slice_index r.passed k) most);
       waited = slice_set r.waited k (max (slice_index r.waited k) (r.rounds - slice_index r.since k));
-      since = r.since;
-      due = r.due;
-      rounds = r.rounds;
     }
 
 -- other arms are due, and so many rounds are over
 abbrev pub with_round : List Bool → ℕ → Record → Record
-with_round due rounds r =
-    record {
-      delivered = r.delivered;
-      passed = r.passed;
-      waited = r.waited;
-      since = r.since;
-      due = due;
-      rounds = rounds;
-    }
+with_round due rounds r = record r { due = due; rounds = rounds }
 
--- whether one of the six arms is due
+-- whether an arm is due
 abbrev pub some_due : List Bool → Bool
-some_due due =
-    slice_index_or due 0 false || (slice_index_or due 1 false || (slice_index_or due 2 false || (slice_index_or due 3 false || (slice_index_or due 4 false || slice_index_or due 5 false))))
+some_due due = list_any (λ d. d) due
 
 -- an arm that the gate has and that is not idle
 abbrev pub is_busy : State → ℕ → Bool
-is_busy s k = cond (is_arm s (k + 1)) (not (is_in P.I s (k + 1))) false
+is_busy s k = if is_arm s (k + 1) then not (is_in P.I s (k + 1)) else false
 
 -- arm k + 1 moved: a round is over once no arm is due, and then every arm that is not idle is
 abbrev pub with_move : State → ℕ → Record → Record
 with_move s k r =
-    let left = set r.due k false in
-    cond (some_due left) (with_round left r.rounds r) (with_round (map (is_busy s) (range_with_len 0 plant_arms)) (more r.rounds) r)
+    let left = slice_set r.due k false in
+    (if some_due left then with_round left r.rounds r else with_round (map (is_busy s) (range_with_len 0 plant_arms)) (more r.rounds) r)
 
 -- what concerns an arm that the day does not have changes nothing
 abbrev pub of_arm : ℕ → Record → Record → Record
-of_arm k new old = cond (nat_lt k plant_arms) new old
+of_arm k new old = if nat_lt k plant_arms then new else old
 
 -- arm k + 1 went inside, and what most_passed answered of it
 abbrev pub with_answer : ℕ → Result ℕ Refusal → Record → Record
@@ -105,7 +76,7 @@ with_answer k (Err refusal) r = r
 -- arm k + 1 stepped from one phase to another
 abbrev pub noted : State → ℕ → Phase → Phase → Record → Record
 noted s k P.I to r = r
-noted s k P.D to r = cond (same_phase to P.W) (of_arm k (with_wait k r) r) r
-noted s k P.W to r = cond (same_phase to P.F) (with_answer k (most_answer s (k + 1)) r) r
+noted s k P.D to r = if same_phase to P.W then of_arm k (with_wait k r) r else r
+noted s k P.W to r = if same_phase to P.F then with_answer k (most_answer s (k + 1)) r else r
 noted s k P.F to r = r
 noted s k P.X to r = r

@@ -48,19 +48,15 @@ fn pick(dice: &mut Dice) -> usize
 fn deliver<B: Bank>(gate: &mut Gate<B>, arm: usize, k: usize, record: &mut Record)
     ensures { Called (whole gate.old) (whole gate.new) }
 {
-    match gate.admit(arm) {
-        Ok(pass) => {
-            let (pass, known) = gate.confirm(pass);
-            if known {
-                record.deliver(k);
-            }
-            match gate.leave(pass) {
-                Ok(_) => record.moved(gate, k),
-                Err(_) => unreachable(),
-            }
-        }
-        Err(_) => {}
+    let Ok(pass) = gate.admit(arm) else {
+        return;
+    };
+    let (pass, known) = gate.confirm(pass);
+    if known {
+        record.deliver(k);
     }
+    gate.leave(pass).unwrap();
+    record.moved(gate, k);
 }
 
 // Notes that arm k + 1 stepped from one phase to another.

@@ -6,6 +6,7 @@ ghost use Rattle.plantday.specs.Records.{plant_arms, fresh, of_arm, with_deliver
 use bank::interface::Bank;
 use door::position::Phase;
 use gate::gate::Gate;
+use std::array;
 
 // How many arms the plant has.
 pub const ARMS: usize = 6;
@@ -88,7 +89,7 @@ impl Record {
 fn is_due(due: &[bool; ARMS]) -> bool
     ensures { result ≡ some_due due.now }
 {
-    due[0] || due[1] || due[2] || due[3] || due[4] || due[5]
+    due.iter().any(|due| *due)
 }
 
 // Whether the gate has arm k + 1 and it is not idle.
@@ -96,25 +97,12 @@ fn is_busy<B: Bank>(gate: &Gate<B>, k: usize) -> bool
     requires { k < plant_arms }
     ensures { result ≡ is_busy (whole gate.now) k }
 {
-    match gate.look(k + 1) {
-        Ok(view) => match view.phase {
-            Phase::I => false,
-            _ => true,
-        },
-        Err(_) => false,
-    }
+    matches!(gate.look(k + 1), Ok(view) if view.phase != Phase::I)
 }
 
 // The arms that are not idle.
 fn busy_arms<B: Bank>(gate: &Gate<B>) -> [bool; ARMS]
     ensures { result ≡ map (is_busy (whole gate.now)) (range_with_len 0 plant_arms) }
 {
-    [
-        is_busy(gate, 0),
-        is_busy(gate, 1),
-        is_busy(gate, 2),
-        is_busy(gate, 3),
-        is_busy(gate, 4),
-        is_busy(gate, 5),
-    ]
+    array::from_fn(|k| is_busy(gate, k))
 }
