@@ -1,7 +1,6 @@
 pub mod Examples
 pub mod Groups
 pub mod Inverse
-pub mod Numbers
 pub mod Steps
 pub mod Told
 pub mod Written

@@ -1,5 +1,6 @@
 -- The file of an arm count and a list of orders, or why it is refused.
-use Rattle.std.specs.Prelude.{ℕ, Bool, true, cond, ◌&&◌, List, [], ◌∷◌, ◌++◌, length, Ok, Err, Result, nat_le}
+use Rattle.std.specs.Prelude.{ℕ, Bool, cond, List, ◌++◌, length, Ok, Err, Result, nat_le}
+use Rattle.std.specs.List.{flat_map, list_all}
 use Rattle.schedule.specs.declared.order.Order.{Order}
 use Rattle.schedule.specs.declared.writer.WriteRefusal.{WriteRefusal}
 use Rattle.schedule.specs.declared.writer.WriteRefusal.TheVariants.{ArmCount, Large, LongFile, Full}
@@ -14,17 +15,15 @@ refusal_number Large = 13
 refusal_number LongFile = 9
 refusal_number Full = 16
 
-unfoldable pub order_bytes : List Order → List ℕ
-order_bytes [] = []
-order_bytes (o ∷ os) = groups (order_number o) ++ order_bytes os
+abbrev pub order_bytes : List Order → List ℕ
+order_bytes orders = flat_map (λ o. groups (order_number o)) orders
 
 abbrev pub file_bytes : ℕ → List Order → List ℕ
 file_bytes arms orders = groups arms ++ order_bytes orders
 
 -- no order's number is too large
 abbrev pub small_orders : List Order → Bool
-small_orders [] = true
-small_orders (o ∷ os) = nat_le (order_number o) largest_number && small_orders os
+small_orders orders = list_all (λ o. nat_le (order_number o) largest_number) orders
 
 -- the file, or the refusal that comes first
 abbrev pub file_of : ℕ → List Order → Result (List ℕ) WriteRefusal

@@ -71,24 +71,11 @@ impl PlayFault {
         match self {
             PlayFault::LongFile => 9,
             PlayFault::ShortMemory => 10,
-            PlayFault::Schedule(
-                ScheduleFault::Number {
-                    fault: NumberFault::Cut { .. },
-                    ..
-                },
-            ) => 11,
-            PlayFault::Schedule(
-                ScheduleFault::Number {
-                    fault: NumberFault::Padded { .. },
-                    ..
-                },
-            ) => 12,
-            PlayFault::Schedule(
-                ScheduleFault::Number {
-                    fault: NumberFault::Large { .. },
-                    ..
-                },
-            ) => 13,
+            PlayFault::Schedule(ScheduleFault::Number { fault, .. }) => match fault {
+                NumberFault::Cut { .. } => 11,
+                NumberFault::Padded { .. } => 12,
+                NumberFault::Large { .. } => 13,
+            },
             PlayFault::Schedule(ScheduleFault::ArmCount) => 14,
             PlayFault::Schedule(ScheduleFault::UnknownOrder { .. }) => 15,
             PlayFault::Full => 16,
@@ -101,9 +88,9 @@ impl PlayFault {
     {
         match self {
             PlayFault::Schedule(ScheduleFault::Number { fault, .. }) => match fault {
-                NumberFault::Cut { place } => place,
-                NumberFault::Padded { place } => place,
-                NumberFault::Large { place } => place,
+                NumberFault::Cut { place }
+                | NumberFault::Padded { place }
+                | NumberFault::Large { place } => place,
             },
             PlayFault::Schedule(ScheduleFault::UnknownOrder { place, .. }) => place,
             _ => 0,
@@ -115,8 +102,9 @@ impl PlayFault {
         ensures { result ≡ fault_order self }
     {
         match self {
-            PlayFault::Schedule(ScheduleFault::Number { order, .. }) => order,
-            PlayFault::Schedule(ScheduleFault::UnknownOrder { order, .. }) => order,
+            PlayFault::Schedule(
+                ScheduleFault::Number { order, .. } | ScheduleFault::UnknownOrder { order, .. },
+            ) => order,
             _ => 0,
         }
     }
