@@ -3,7 +3,7 @@ use Rattle.std.proofs.Common.{◌≡◌, ℕ, zero, suc, ◌+◌, ◌<◌, ◌�
 use Rattle.std.specs.List.{All}
 use Rattle.std.proofs.lemmas.List.Elements.{All-nil, All-cons, All-head, All-tail, All-append, All-drop, All-from_get_or}
 use Rattle.std.proofs.lemmas.List.{drop_at, take_at}
-use Rattle.std.proofs.lemmas.Bool.{and_parts, le-leb, leb-true}
+use Rattle.std.proofs.lemmas.Bool.{le-leb, leb-true}
 use Rattle.std.proofs.lemmas.Bool.Decides.{nat_tests, Decides-by_and}
 use Rattle.schedule.specs.declared.order.Order.{Order}
 use Rattle.schedule.specs.declared.number.Number.{Number}
@@ -14,12 +14,12 @@ use Rattle.schedule.specs.declared.writer.WriteRefusal.{WriteRefusal}
 use Rattle.schedule.specs.Laws.{bytes_of, Lawful, Bytes, WritesLawful, ReadsBack, ReadsLawful, OneFile, Inverse, WasRead, WasWritten}
 use Rattle.schedule.specs.Limits.{arm_limit, file_limit, largest_number, largest_arm}
 use Rattle.schedule.specs.Numbers.{groups}
-use Rattle.schedule.specs.Orders.{order_number, order_of, arm_of}
-use Rattle.schedule.specs.Reading.{Contents, and_then, in_play, in_schedule, with_count, known, arms_from, order_from, orders_from, preceded, contents, says, heading_of, read_memory}
+use Rattle.schedule.specs.Orders.{order_number, arm_of}
+use Rattle.schedule.specs.Reading.{Contents, arms_from, order_from, orders_from, contents, says, heading_of, read_memory}
 use Rattle.schedule.specs.Writing.{order_bytes, file_bytes, small_orders, file_of, length_of}
 use Rattle.schedule.proofs.Groups.{ends, number_of_groups, span_of_groups, groups_bytes, order_of_number, number_near, near_number, number_of_order, groups_of_number}
 use Rattle.schedule.proofs.Steps.{span, number_ends, order_parts, order_ends, orders_step, orders_fault, orders_end}
-use Rattle.schedule.proofs.Told.{arms_read, arms_counted, says_past, unpreceded, told, said}
+use Rattle.schedule.proofs.Told.{first_number, unpreceded, told, said}
 
 abbrev Near : List Order → Type 0
 Near os = All (λ o. arm_of o ≤ largest_arm) os
@@ -37,21 +37,21 @@ near_both o os h t = All-cons (λ x. arm_of x ≤ largest_arm) o os h t
 order_read : (place count : ℕ) (o : Order) (rest : List ℕ) → arm_of o ≤ largest_arm
     → order_from place count (groups (order_number o) ++ rest) ≡ Ok (record { order = o; next = place + length (groups (order_number o)) })
 order_read place count o rest h =
-    let k = order_number o in
-    ap (λ r. and_then (in_schedule (with_count count r)) (λ n. known place count n.next (order_of n.value))) (number_of_groups place k rest (number_near o h))
-    ∙ ap (known place count (place + length (groups k))) (order_of_number o)
+    let n = number_of_groups place (order_number o) rest (number_near o h) in
+    let k = order_of_number o in
+    grind arith
 
 orders_read : (place count : ℕ) (os : List Order) → Near os → orders_from place count (order_bytes os) ≡ Ok os
 orders_read place count [] h = orders_end place count
 orders_read place count (o ∷ os) h =
-    let k = order_number o in
-    let bytes = groups k ++ order_bytes os in
-    let next = place + length (groups k) in
-    let p : Placed = record { order = o; next = next } in
-    orders_step place count bytes p (order_read place count o (order_bytes os) (near_first o os h))
-    ∙ ap (λ xs. preceded o (orders_from next (count + 1) xs))
-    (drop_at (groups k) (order_bytes os) (span bytes) (sym (span_of_groups k (order_bytes os) (number_near o (near_first o os h)))))
-    ∙ ap (preceded o) (orders_read next (count + 1) os (near_rest o os h))
+    let near = near_first o os h in
+    let first = groups (order_number o) in
+    let bytes = first ++ order_bytes os in
+    let p : Placed = record { order = o; next = place + length first } in
+    let step = orders_step place count bytes p (order_read place count o (order_bytes os) near) in
+    let left = drop_at first (order_bytes os) (span bytes) (sym (span_of_groups (order_number o) (order_bytes os) (number_near o near))) in
+    let others = orders_read (place + length first) (count + 1) os (near_rest o os h) in
+    grind arith
 
 orders_bytes : (os : List Order) → Near os → Bytes (order_bytes os)
 orders_bytes [] h = All-nil (λ b. b < 256)
@@ -63,13 +63,12 @@ arms_back arms rest l h = let k = number_of_groups 0 arms rest (omega arith) in 
 pub reads_back : ReadsBack
 reads_back c l =
     let g = groups c.arms in
-    let os = c.orders in
-    let file = bytes_of c in
-    let n = ends c.arms (length g) in (
-      All-append (λ b. b < 256) g (order_bytes os) (groups_bytes c.arms (omega (arith, l.few_arms))) (orders_bytes os l.near_arms),
-      says_past file n l.short (arms_back c.arms (order_bytes os) l.some_arms l.few_arms)
-          ∙ ap (λ xs. in_play (and_then (orders_from (length g) 1 xs) (λ ys. Ok (contents c.arms ys)))) (drop_at g (order_bytes os) (length g) refl)
-          ∙ ap (λ r. in_play (and_then r (λ ys. Ok (contents c.arms ys)))) (orders_read (length g) 1 os l.near_arms),
+    let first = arms_back c.arms (order_bytes c.orders) l.some_arms l.few_arms in
+    let left = drop_at g (order_bytes c.orders) (length g) refl in
+    let others = orders_read (length g) 1 c.orders l.near_arms in
+    let short = l.short in (
+      All-append (λ b. b < 256) g (order_bytes c.orders) (groups_bytes c.arms (omega (arith, l.few_arms))) (orders_bytes c.orders l.near_arms),
+      grind (arith, nat_tests),
     )
 
 -- from a file to its list and back
@@ -84,7 +83,7 @@ first_order place count bytes p b e =
     let q = order_parts place count bytes p e in
     let g = groups_of_number place bytes q.n b q.read in
     let k = number_of_order q.n.value p.order q.kind in
-    (near_number p.order (omega (arith, k, g.small)), g.are ∙ ap (λ v. groups v ++ drop (span bytes) bytes) (sym k))
+    (near_number p.order (omega (arith, k, g.small)), cc)
 
 abbrev Back : ℕ → Type 0
 Back fuel =
@@ -142,23 +141,14 @@ pub reads_lawful : ReadsLawful
 reads_lawful file b c e =
     let w = whole file c e in
     let n = w.n in
-    let r = arms_read file n w.first in
-    let g = groups_of_number 0 file n b r in
-    let k = number_ends 0 file n r in
+    let f = first_number file n w.first in
+    let g = groups_of_number 0 file n b f.reads in
+    let k = number_ends 0 file n f.reads in
     let at : span file ≡ n.next = omega (arith, k.next_is) in
     let t = orders_back (length (drop n.next file)) n.next 1 (drop n.next file) c.orders (omega arith) (All-drop (λ y. y < 256) n.next file b) w.rest in
-    let is : file ≡ bytes_of c =
-    g.are ∙ ap (λ m. groups n.value ++ drop m file) at ∙ ap (λ xs. groups n.value ++ xs) t.are
-    ∙ ap (λ m. groups m ++ order_bytes c.orders) (sym w.arms_are) in
-    let p = and_parts (leb 1 n.value) (leb n.value arm_limit) (arms_counted file n w.first) in (
-      record {
-        some_arms = omega (arith, w.arms_are, leb-true 1 n.value p.0);
-        few_arms = omega (arith, w.arms_are, leb-true n.value arm_limit p.1);
-        near_arms = t.near;
-        short = subst (λ xs. length xs ≤ file_limit) is w.short;
-      },
-      is,
-    )
+    let is : file ≡ bytes_of c = cc in
+    let short = w.short in
+    (record { some_arms = grind (arith, nat_tests); few_arms = grind (arith, nat_tests); near_arms = t.near; short = grind arith }, is)
 
 pub one_file : OneFile
 one_file c l file b e = (reads_lawful file b c e).1

@@ -1,5 +1,5 @@
 -- What the reader has found out on its way through a file.
-use Rattle.std.proofs.Common.{◌≡◌, ℕ, ◌+◌, ◌<◌, ◌≤◌, true, List, [], ◌∷◌, ◌++◌, length, get_or, take, drop, set, IsOk, Ok, Err, Result, sym, refl, ap, ◌∙◌, append_assoc, arith}
+use Rattle.std.proofs.Common.{◌≡◌, ℕ, ◌+◌, ◌<◌, true, List, [], ◌∷◌, ◌++◌, length, get_or, take, drop, set, IsOk, Ok, Err, Result, sym, refl, ◌∙◌, append_assoc, arith}
 use Rattle.std.proofs.lemmas.List.{drop-drop, drop_more, set_at, length-take-le, take_more}
 use Rattle.std.proofs.lemmas.Bool.Decides.{nat_tests}
 use Rattle.schedule.specs.declared.order.Order.{Order}
@@ -9,9 +9,9 @@ use Rattle.schedule.specs.declared.reader.Placed.{Placed}
 use Rattle.schedule.specs.declared.fault.NumberFault.{NumberFault}
 use Rattle.schedule.specs.declared.fault.ScheduleFault.{ScheduleFault}
 use Rattle.schedule.specs.declared.fault.PlayFault.{PlayFault}
-use Rattle.schedule.specs.Limits.{file_limit, arm_count}
+use Rattle.schedule.specs.Limits.{arm_count}
 use Rattle.schedule.specs.Numbers.{number_from}
-use Rattle.schedule.specs.Reading.{Contents, in_play, arms_from, order_from, orders_from, preceded, contents_from, order_count, says, heading_of}
+use Rattle.schedule.specs.Reading.{Contents, arms_from, order_from, orders_from, preceded, order_count, heading_of}
 use Rattle.schedule.proofs.Steps.{step_at, orders_fault, orders_end}
 use Rattle.schedule.proofs.Written.{no_order}
 
@@ -28,27 +28,17 @@ pub count_tally : (r : Result (List Order) ScheduleFault) → order_count r ≡ 
 count_tally (Ok os) = grind arith
 count_tally (Err f) = refl
 
--- the first number
-record First (file : List ℕ) (n : Number) : Type 0 where
-  reads : number_from 0 file ≡ Ok n
-  counts : arm_count n.value ≡ true
+-- the first number of a file is its arm count
+pub record First (file : List ℕ) (n : Number) : Type 0 where
+  pub reads : number_from 0 file ≡ Ok n
+  pub counts : arm_count n.value ≡ true
 
-the_first : (file : List ℕ) (n : Number) → arms_from file ≡ Ok n → First file n
-the_first file n e = go (number_from 0 file) refl
+pub first_number : (file : List ℕ) (n : Number) → arms_from file ≡ Ok n → First file n
+first_number file n e = go (number_from 0 file) refl
   where
     go : (r : Result Number NumberFault) → number_from 0 file ≡ r → First file n
     go (Ok m) r = record { reads = grind (arith, nat_tests); counts = grind (arith, nat_tests) }
     go (Err f) r = absurd (grind arith)
-
-pub arms_read : (file : List ℕ) (n : Number) → arms_from file ≡ Ok n → number_from 0 file ≡ Ok n
-arms_read file n e = (the_first file n e).reads
-
-pub arms_counted : (file : List ℕ) (n : Number) → arms_from file ≡ Ok n → arm_count n.value ≡ true
-arms_counted file n e = (the_first file n e).counts
-
--- what a file says once its first number is read
-pub says_past : (file : List ℕ) (n : Number) → length file ≤ file_limit → arms_from file ≡ Ok n → says file ≡ in_play (contents_from n file)
-says_past file n short first = grind (arith, nat_tests)
 
 -- the orders that a file says
 abbrev pub told : Result Contents PlayFault → List Order
@@ -89,9 +79,10 @@ pub next_told : (file : List ℕ) (at i : ℕ) (all : List Order) (p : Placed)
     → order_from at (i + 1) (drop at file) ≡ Ok p
     → (orders_from p.next (i + 1 + 1) (drop p.next file) ≡ Ok (drop (i + 1) all)) × (drop i all ≡ p.order ∷ drop (i + 1) all)
 next_told file at i all p e h =
-    let u = unpreceded p.order (orders_from p.next (i + 1 + 1) (drop p.next file)) (drop i all) (sym (step_at file at (i + 1) p h) ∙ e) in
+    let s = step_at file at (i + 1) p h in
+    let u = unpreceded p.order (orders_from p.next (i + 1 + 1) (drop p.next file)) (drop i all) (sym s ∙ e) in
     let d = drop-drop 1 i all in
-    (u.0 ∙ ap Ok d, u.1 ∙ ap (λ xs. p.order ∷ xs) d)
+    (cc, cc)
 
 pub next_put : (all memory out : List Order) (i : ℕ) (o : Order)
     → out ≡ take i all ++ drop i memory → drop i all ≡ o ∷ drop (i + 1) all → i < length all → i < length memory
