@@ -4,7 +4,7 @@ ghost use Rattle.schedule.specs.declared.fault.PlayFault.TheVariants as P;
 ghost use Rattle.schedule.specs.Faults.{fault_number, fault_place, fault_order, fault_layer};
 
 // What is wrong with a number, and the place of its first byte.
-#[derive(Clone, Copy)]
+#[derive(Clone, Copy, Debug, PartialEq, Eq)]
 pub enum NumberFault {
     Cut { place: usize },
     Padded { place: usize },
@@ -13,7 +13,7 @@ pub enum NumberFault {
 
 // What is wrong with a schedule: with a number of it, counted from the arm count as 0,
 // with the arm count, or with the kind of an order.
-#[derive(Clone, Copy)]
+#[derive(Clone, Copy, Debug, PartialEq, Eq)]
 pub enum ScheduleFault {
     Number { fault: NumberFault, order: usize },
     ArmCount,
@@ -21,7 +21,7 @@ pub enum ScheduleFault {
 }
 
 // Why a file is not read or played.
-#[derive(Clone, Copy)]
+#[derive(Clone, Copy, Debug, PartialEq, Eq)]
 pub enum PlayFault {
     LongFile,
     ShortMemory,
@@ -30,7 +30,7 @@ pub enum PlayFault {
 }
 
 // The layer that a fault arises in.
-#[derive(Clone, Copy)]
+#[derive(Clone, Copy, Debug, PartialEq, Eq)]
 pub enum Layer {
     Number,
     Schedule,
@@ -38,7 +38,7 @@ pub enum Layer {
 }
 
 // A number fault with the count of its order, on its way into a schedule fault.
-#[derive(Clone, Copy)]
+#[derive(Clone, Copy, Debug, PartialEq, Eq)]
 pub struct Counted {
     pub fault: NumberFault,
     pub order: usize,

@@ -11,7 +11,7 @@ const GROUP: u32 = 128;
 const MORE: u8 = 128;
 
 // A number of a file, and the place after it.
-#[derive(Clone, Copy)]
+#[derive(Clone, Copy, Debug, PartialEq, Eq)]
 pub struct Number {
     pub value: u16,
     pub next: usize,

@@ -9,14 +9,14 @@ use crate::number::{Number, number_at};
 use crate::order::Order;
 
 // What stands before the orders of a file, and how many orders there are.
-#[derive(Clone, Copy)]
+#[derive(Clone, Copy, Debug, PartialEq, Eq)]
 pub struct Heading {
     pub arms: u16,
     pub orders: usize,
 }
 
 // An order of a file, and the place after it.
-#[derive(Clone, Copy)]
+#[derive(Clone, Copy, Debug, PartialEq, Eq)]
 pub struct Placed {
     pub order: Order,
     pub next: usize,

@@ -8,7 +8,7 @@ use crate::number::{put, width};
 use crate::order::Order;
 
 // Why a list of orders is not written.
-#[derive(Clone, Copy)]
+#[derive(Clone, Copy, Debug, PartialEq, Eq)]
 pub enum WriteRefusal {
     ArmCount,
     Large,
