@@ -1,5 +1,6 @@
 -- A number and its groups, an order and its number: each way back.
 use Rattle.std.proofs.Common.{◌≡◌, ℕ, ◌+◌, ◌/◌, ◌%◌, ◌<◌, ◌≤◌, ltb, List, [], ◌∷◌, ◌++◌, length, drop, Some, Ok, arith}
+use Rattle.std.specs.List.{All}
 use Rattle.std.proofs.lemmas.Bool.{cond_both, ltb-true}
 use Rattle.std.proofs.lemmas.Bool.Decides.{nat_tests}
 use Rattle.std.proofs.lemmas.List.Elements.{All-nil, All-cons, All-head}
@@ -37,6 +38,10 @@ groups_bytes k h =
     cond_both (ltb k 128) _ _ Bytes
     (λ s. bytes_more k [] (omega (arith, ltb-true k 128 s)) bytes_none)
     (λ s. bytes_more (k % 128 + 128) ((k / 128) ∷ []) (omega arith) (bytes_more (k / 128) [] (omega arith) bytes_none))
+
+-- no arm is too far
+abbrev pub Near : List Order → Type 0
+Near os = All (λ o. arm_of o ≤ largest_arm) os
 
 pub order_of_number : (o : Order) → order_of (order_number o) ≡ Some o
 order_of_number (Begin arm) = grind (arith, nat_tests)

@@ -1,4 +1,6 @@
 pub mod Examples
+pub mod FromFile
+pub mod FromList
 pub mod Groups
 pub mod Inverse
 pub mod Steps
