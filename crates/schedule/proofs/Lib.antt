@@ -3,6 +3,7 @@ pub mod FromFile
 pub mod FromList
 pub mod Groups
 pub mod Inverse
+pub mod Puts
 pub mod Steps
 pub mod Told
 pub mod Written

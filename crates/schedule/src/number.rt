@@ -44,6 +44,7 @@ pub(crate) fn width(number: u32) -> usize
 }
 
 // Writes a number at a place, and answers the place after it.
+#[tactic(auto, using(crate::proofs::Puts::set_one, crate::proofs::Puts::set_two))]
 pub(crate) fn put(out: &mut [u8], at: usize, number: u32) -> usize
     requires small { number ≤ largest_number }
     requires room { at + length (groups number) ≤ length out.old }
