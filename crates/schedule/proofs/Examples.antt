@@ -11,7 +11,7 @@ use Rattle.schedule.specs.declared.fault.Layer.TheVariants as L
 use Rattle.schedule.specs.Faults.{fault_number, fault_place, fault_order, fault_layer}
 use Rattle.schedule.specs.Numbers.{groups}
 use Rattle.schedule.specs.Reading.{Contents, says, orders_from, read_answer, read_memory}
-use Rattle.schedule.specs.Writing.{file_bytes, order_bytes, write_answer, write_memory}
+use Rattle.schedule.specs.Writing.{file_bytes, write_answer, write_memory}
 
 -- 7F, 80 01 and FF 7F
 one_group : groups 127 ≡ 127 ∷ []
@@ -91,7 +91,6 @@ unfolding orders_from
 three_read = refl
 
 three_written : file_bytes 2 three ≡ 2 ∷ 4 ∷ 133 ∷ 1 ∷ 6 ∷ []
-unfolding order_bytes
 three_written = refl
 
 -- memory for fewer orders than the file has is full, and stays as it was
@@ -112,21 +111,16 @@ part_memory = refl
 
 -- the writer refuses an arm count first, then a large number, then for want of memory
 far_first : write_answer 0 (Begin 4096 ∷ []) 0 ≡ Err W.ArmCount
-unfolding order_bytes
 far_first = refl
 
 far : write_answer 32 (Begin 4096 ∷ []) 0 ≡ Err W.Large
-unfolding order_bytes
 far = refl
 
 near : write_answer 32 (Leave 4095 ∷ []) 3 ≡ Ok 3
-unfolding order_bytes
 near = refl
 
 no_room : write_answer 32 (Leave 4095 ∷ []) 2 ≡ Err W.Full
-unfolding order_bytes
 no_room = refl
 
 written : write_memory 32 (Step 1 ∷ []) (9 ∷ 9 ∷ 9 ∷ []) ≡ 32 ∷ 5 ∷ 9 ∷ []
-unfolding order_bytes
 written = refl

@@ -1,286 +1,75 @@
--- Reader and writer are inverse.
-use Rattle.std.proofs.Common.{◌≡◌, ℕ, zero, suc, ◌+◌, ◌<◌, ◌≤◌, Bool, true, cond, leb, List, [], ◌∷◌, ◌++◌, length, get_or, take, drop, is_ok, Ok, Err, Decides, Result, sym, refl, ap, ◌∙◌, subst, ⊎_elim, arith, length-drop}
-use Rattle.std.specs.List.{All}
-use Rattle.std.proofs.lemmas.List.Elements.{All-nil, All-cons, All-head, All-tail, All-append, All-drop, All-from_get_or}
-use Rattle.std.proofs.lemmas.List.{drop_at, take_at}
-use Rattle.std.proofs.lemmas.Bool.{cond-true, cond-false, cond_both, and_from, and_parts, le-leb, leb-true, cases_Bool, false≢true}
+-- Reader and writer are inverse, and so is each call of them.
+use Rattle.std.proofs.Common.{◌≡◌, ℕ, ◌<◌, ◌≤◌, ◌↔◌, Bool, true, leb, List, ◌++◌, length, get_or, take, drop, is_ok, IsTrue, Ok, Err, Decides, Result, sym, refl, ap, ◌∙◌, subst, arith}
+use Rattle.std.proofs.lemmas.List.Elements.{All-from_get_or}
+use Rattle.std.proofs.lemmas.List.{take_at}
+use Rattle.std.proofs.lemmas.Bool.{le-leb, leb-true}
+use Rattle.std.proofs.lemmas.Bool.Decides.{nat_tests, Decides-by_and}
 use Rattle.schedule.specs.declared.order.Order.{Order}
-use Rattle.schedule.specs.declared.number.Number.{Number}
 use Rattle.schedule.specs.declared.reader.Heading.{Heading}
-use Rattle.schedule.specs.declared.reader.Placed.{Placed}
-use Rattle.schedule.specs.declared.fault.PlayFault.{PlayFault}
-use Rattle.schedule.specs.declared.fault.ScheduleFault.{ScheduleFault}
-use Rattle.schedule.specs.declared.fault.ScheduleFault.TheVariants as S
-use Rattle.schedule.specs.declared.fault.PlayFault.TheVariants as P
 use Rattle.schedule.specs.declared.writer.WriteRefusal.{WriteRefusal}
-use Rattle.schedule.specs.declared.writer.WriteRefusal.TheVariants.{ArmCount, Large, LongFile}
-use Rattle.schedule.specs.Laws.{bytes_of, Lawful, Bytes, WritesLawful, ReadsBack, ReadsLawful, OneFile, Inverse, listed, WasRead, WasWritten}
-use Rattle.schedule.specs.Limits.{arm_limit, file_limit, largest_number, largest_arm, arm_count}
-use Rattle.schedule.specs.Numbers.{groups}
-use Rattle.schedule.specs.Orders.{order_number, order_of, arm_of}
-use Rattle.schedule.specs.Reading.{Contents, and_then, in_play, in_schedule, with_count, known, arms_from, order_from, orders_from, preceded, contents_from, contents, says, heading, read_answer, read_memory}
-use Rattle.schedule.specs.Writing.{order_bytes, file_bytes, small_orders, file_of}
-use Rattle.schedule.proofs.Numbers.{ends}
-use Rattle.schedule.proofs.Groups.{number_of_groups, span_of_groups, groups_bytes, order_of_number, number_near, near_number, number_of_order, groups_of_number}
-use Rattle.schedule.proofs.Steps.{span, number_ends, order_parts, order_ends, orders_step, orders_fault, orders_end}
-use Rattle.schedule.proofs.Written.{counts, file_whole}
-use Rattle.schedule.proofs.Told.{arms_read, arms_counted, says_past, unpreceded}
-
-abbrev Near : List Order → Type 0
-Near os = All (λ o. arm_of o ≤ largest_arm) os
-
-near_first : (o : Order) (os : List Order) → Near (o ∷ os) → arm_of o ≤ largest_arm
-near_first o os h = All-head (λ x. arm_of x ≤ largest_arm) o os h
-
-near_rest : (o : Order) (os : List Order) → Near (o ∷ os) → Near os
-near_rest o os h = All-tail (λ x. arm_of x ≤ largest_arm) o os h
-
-near_both : (o : Order) (os : List Order) → arm_of o ≤ largest_arm → Near os → Near (o ∷ os)
-near_both o os h t = All-cons (λ x. arm_of x ≤ largest_arm) o os h t
-
--- from a list to its file and back
-order_bytes_nil : order_bytes [] ≡ []
-unfolding order_bytes
-order_bytes_nil = refl
-
-order_bytes_cons : (o : Order) (os : List Order) → order_bytes (o ∷ os) ≡ groups (order_number o) ++ order_bytes os
-unfolding order_bytes
-order_bytes_cons o os = refl
-
-order_read : (place count : ℕ) (o : Order) (rest : List ℕ) → arm_of o ≤ largest_arm
-    → order_from place count (groups (order_number o) ++ rest) ≡ Ok (record { order = o; next = place + length (groups (order_number o)) })
-order_read place count o rest h =
-    let k = order_number o in
-    ap (λ r. and_then (in_schedule (with_count count r)) (λ n. known place count n.next (order_of n.value))) (number_of_groups place k rest (number_near o h))
-    ∙ ap (known place count (place + length (groups k))) (order_of_number o)
-
-orders_read : (place count : ℕ) (os : List Order) → Near os → orders_from place count (order_bytes os) ≡ Ok os
-orders_read place count [] h = ap (orders_from place count) order_bytes_nil ∙ orders_end place count
-orders_read place count (o ∷ os) h =
-    let k = order_number o in
-    let bytes = groups k ++ order_bytes os in
-    let next = place + length (groups k) in
-    let p : Placed = record { order = o; next = next } in
-    ap (orders_from place count) (order_bytes_cons o os)
-    ∙ orders_step place count bytes p (order_read place count o (order_bytes os) (near_first o os h))
-    ∙ ap (λ xs. preceded o (orders_from next (count + 1) xs))
-    (drop_at (groups k) (order_bytes os) (span bytes) (sym (span_of_groups k (order_bytes os) (number_near o (near_first o os h)))))
-    ∙ ap (preceded o) (orders_read next (count + 1) os (near_rest o os h))
-
-orders_bytes : (os : List Order) → Near os → Bytes (order_bytes os)
-unfolding order_bytes
-orders_bytes [] h = All-nil (λ b. b < 256)
-orders_bytes (o ∷ os) h = All-append (λ b. b < 256) (groups (order_number o)) (order_bytes os) (groups_bytes (order_number o) (number_near o (near_first o os h))) (orders_bytes os (near_rest o os h))
-
-arms_back : (arms : ℕ) (rest : List ℕ) → 1 ≤ arms → arms ≤ arm_limit → arms_from (groups arms ++ rest) ≡ Ok (ends arms (0 + length (groups arms)))
-arms_back arms rest l h =
-    ap (λ r. and_then (in_schedule (with_count 0 r)) (λ n. cond (arm_count n.value) (Ok n) (Err S.ArmCount))) (number_of_groups 0 arms rest (omega arith))
-    ∙ cond-true (arm_count arms) _ _ (counts arms l h)
-
-pub reads_back : ReadsBack
-reads_back c l =
-    let g = groups c.arms in
-    let os = c.orders in
-    let file = bytes_of c in
-    let n = ends c.arms (0 + length g) in
-    let z : length g ≡ 0 + length g = omega arith in (
-      All-append (λ b. b < 256) g (order_bytes os) (groups_bytes c.arms (omega (arith, l.few_arms))) (orders_bytes os l.near_arms),
-      says_past file n l.short (arms_back c.arms (order_bytes os) l.some_arms l.few_arms)
-          ∙ ap (λ xs. in_play (and_then (orders_from (0 + length g) 1 xs) (λ ys. Ok (record { arms = c.arms; orders = ys })))) (drop_at g (order_bytes os) (0 + length g) z)
-          ∙ ap (λ r. in_play (and_then r (λ ys. Ok (record { arms = c.arms; orders = ys })))) (orders_read (0 + length g) 1 os l.near_arms),
-    )
-
--- from a file to its list and back
-pub record Listed (bytes : List ℕ) (os : List Order) : Type 0 where
-  pub near : Near os
-  pub are : bytes ≡ order_bytes os
-
--- the first order of some bytes
-first_order : (place count : ℕ) (bytes : List ℕ) (p : Placed) → Bytes bytes → order_from place count bytes ≡ Ok p
-    → (arm_of p.order ≤ largest_arm) × (bytes ≡ groups (order_number p.order) ++ drop (span bytes) bytes)
-first_order place count bytes p b e =
-    let q = order_parts place count bytes p e in
-    let g = groups_of_number place bytes q.n b q.read in
-    let k = number_of_order q.n.value p.order q.kind in
-    (near_number p.order (omega (arith, k, g.small)), g.are ∙ ap (λ v. groups v ++ drop (span bytes) bytes) (sym k))
-
-abbrev Back : ℕ → Type 0
-Back fuel =
-    (place count : ℕ) (bytes : List ℕ) (os : List Order) → length bytes ≤ fuel → Bytes bytes
-    → orders_from place count bytes ≡ Ok os → Listed bytes os
-
-one_back : (fuel place count x : ℕ) (bytes : List ℕ) (os : List Order) (p : Placed) → Back fuel → length bytes ≤ fuel → Bytes (x ∷ bytes)
-    → orders_from place count (x ∷ bytes) ≡ Ok os → order_from place count (x ∷ bytes) ≡ Ok p → Listed (x ∷ bytes) os
-one_back fuel place count x bytes os p back l b e r =
-    let all = x ∷ bytes in
-    let f = first_order place count all p b r in
-    let n = order_ends place count all p r in
-    let rest = drop (span all) all in
-    let d = length-drop (span all) all in
-    let u = unpreceded p.order (orders_from p.next (count + 1) rest) os (sym (orders_step place count all p r) ∙ e) in
-    let t = back p.next (count + 1) rest (drop 1 os) (omega (arith, d, l, n.2)) (All-drop (λ y. y < 256) (span all) all b) u.0 in
-    let os_is : os ≡ p.order ∷ drop 1 os = u.1 in
-    record {
-      near = subst Near (sym os_is) (near_both p.order (drop 1 os) f.0 t.near);
-      are =
-          f.1 ∙ ap (λ xs. groups (order_number p.order) ++ xs) t.are
-          ∙ sym (order_bytes_cons p.order (drop 1 os)) ∙ ap order_bytes (sym os_is);
-    }
-
-orders_back : (fuel : ℕ) → Back fuel
-orders_back fuel place count [] os l b e =
-    let i : [] ≡ os = let k = orders_end place count in cc in
-    subst (Listed []) i (record { near = All-nil (λ o. arm_of o ≤ largest_arm); are = sym order_bytes_nil })
-orders_back zero place count (x ∷ bytes) os l b e = absurd (omega arith)
-orders_back (suc fuel) place count (x ∷ bytes) os l b e =
-    by (order_from place count (x ∷ bytes)) refl (λ q k ys zs. orders_back fuel q k ys zs)
-  where
-    by : (r : Result Placed ScheduleFault) → order_from place count (x ∷ bytes) ≡ r → Back fuel → Listed (x ∷ bytes) os
-    by (Ok p) r back = one_back fuel place count x bytes os p back (omega arith) b e r
-    by (Err f) r back = let k = orders_fault place count (x ∷ bytes) f (omega arith) r in absurd (grind arith)
-
--- what a file says is its arm count and the orders after it
-record Whole (file : List ℕ) (c : Contents) : Type 0 where
-  n : Number
-  short : length file ≤ file_limit
-  first : arms_from file ≡ Ok n
-  counted : arm_count n.value ≡ true
-  rest : orders_from n.next 1 (drop n.next file) ≡ Ok c.orders
-  arms_are : c.arms ≡ n.value
-
-whole : (file : List ℕ) (c : Contents) → says file ≡ Ok c → Whole file c
-whole file c e =
-    cond_both (leb (length file) file_limit) (in_play (and_then (arms_from file) (λ m. contents_from m file))) (Err P.LongFile) (λ r. r ≡ Ok c → Whole file c)
-    (λ t h. inside (leb-true (length file) file_limit t) (arms_from file) refl h)
-    (λ t h. absurd (grind arith))
-    e
-  where
-    rest_of : length file ≤ file_limit → (n : Number) → arms_from file ≡ Ok n
-        → (r : Result (List Order) ScheduleFault) → orders_from n.next 1 (drop n.next file) ≡ r
-        → in_play (and_then r (λ os. Ok (record { arms = n.value; orders = os }))) ≡ Ok c → Whole file c
-    rest_of s n a (Ok os) o h =
-        let d : Contents = record { arms = n.value; orders = os } in
-        let i : d ≡ c = cc in
-        record {
-          n = n;
-          short = s;
-          first = a;
-          counted = arms_counted file n a;
-          rest = o ∙ ap (λ x. Ok x.orders) i;
-          arms_are = sym (ap (λ x. x.arms) i);
-        }
-    rest_of s n a (Err f) o h = absurd (grind arith)
-
-    inside : length file ≤ file_limit → (r : Result Number ScheduleFault) → arms_from file ≡ r
-        → in_play (and_then r (λ m. contents_from m file)) ≡ Ok c → Whole file c
-    inside s (Ok n) a h = rest_of s n a (orders_from n.next 1 (drop n.next file)) refl h
-    inside s (Err f) a h = absurd (grind arith)
-
-pub reads_lawful : ReadsLawful
-reads_lawful file b c e =
-    let w = whole file c e in
-    let n = w.n in
-    let r = arms_read file n w.first in
-    let g = groups_of_number 0 file n b r in
-    let k = number_ends 0 file n r in
-    let at : span file ≡ n.next = omega (arith, k.next_is) in
-    let t = orders_back (length (drop n.next file)) n.next 1 (drop n.next file) c.orders (omega arith) (All-drop (λ y. y < 256) n.next file b) w.rest in
-    let is : file ≡ bytes_of c =
-    g.are ∙ ap (λ m. groups n.value ++ drop m file) at ∙ ap (λ xs. groups n.value ++ xs) t.are
-    ∙ ap (λ m. groups m ++ order_bytes c.orders) (sym w.arms_are) in
-    let p = and_parts (leb 1 n.value) (leb n.value arm_limit) w.counted in (
-      record {
-        some_arms = omega (arith, w.arms_are, leb-true 1 n.value p.0);
-        few_arms = omega (arith, w.arms_are, leb-true n.value arm_limit p.1);
-        near_arms = t.near;
-        short = subst (λ xs. length xs ≤ file_limit) is w.short;
-      },
-      is,
-    )
+use Rattle.schedule.specs.Laws.{bytes_of, Lawful, WritesLawful, OneFile, Inverse, WasRead, WasWritten}
+use Rattle.schedule.specs.Limits.{largest_number, largest_arm}
+use Rattle.schedule.specs.Orders.{order_number, arm_of}
+use Rattle.schedule.specs.Reading.{contents, says, heading_of, read_memory}
+use Rattle.schedule.specs.Writing.{file_bytes, small_orders, file_of, length_of}
+use Rattle.schedule.proofs.Groups.{Near, number_near, near_number}
+use Rattle.schedule.proofs.Told.{told, said}
+use Rattle.schedule.proofs.FromList.{reads_back}
+use Rattle.schedule.proofs.FromFile.{reads_lawful}
 
 pub one_file : OneFile
 one_file c l file b e = (reads_lawful file b c e).1
 
 -- the writer
-small_near : (os : List Order) → small_orders os ≡ true → Near os
-small_near [] h = All-nil (λ o. arm_of o ≤ largest_arm)
-small_near (o ∷ os) h =
-    let p = and_parts (leb (order_number o) largest_number) (small_orders os) h in
-    near_both o os (near_number o (leb-true (order_number o) largest_number p.0)) (small_near os p.1)
-
-near_small : (os : List Order) → Near os → small_orders os ≡ true
-near_small [] h = refl
-near_small (o ∷ os) h =
-    and_from (leb (order_number o) largest_number) (small_orders os) (le-leb (order_number o) largest_number (number_near o (near_first o os h))) (near_small os (near_rest o os h))
+small_is_near : (os : List Order) → Decides (small_orders os) (Near os)
+small_is_near os = Decides-by_and (λ o. leb (order_number o) largest_number) (λ o. arm_of o ≤ largest_arm) small_orders each refl (λ _ _. refl) os
+  where
+    each : (o : Order) → Decides (leb (order_number o) largest_number) (arm_of o ≤ largest_arm)
+    each o = (λ t. near_number o (leb-true (order_number o) largest_number t), λ h. le-leb (order_number o) largest_number (number_near o h))
 
 pub writes_lawful : WritesLawful
 writes_lawful c = (forth, back)
   where
+    d : Decides (small_orders c.orders) (Near c.orders)
+    d = small_is_near c.orders
+
     forth : Lawful c → file_of c.arms c.orders ≡ Ok (bytes_of c)
-    forth l = file_whole c.arms c.orders l.some_arms l.few_arms (near_small c.orders l.near_arms) l.short
+    forth l = let t = d.1 l.near_arms in grind (arith, nat_tests)
 
     back : (file : List ℕ) → file_of c.arms c.orders ≡ Ok file → Lawful c × (file ≡ bytes_of c)
     back file e =
-        let b = file_bytes c.arms c.orders in
-        let Q : Result (List ℕ) WriteRefusal → Type 0 = λ r. r ≡ Ok file → Lawful c × (file ≡ bytes_of c) in
-        cond_both (arm_count c.arms) _ (Err ArmCount) Q
-        (λ t. cond_both (small_orders c.orders) _ (Err Large) Q
-        (λ u. cond_both (leb (length b) file_limit) (Ok b) (Err LongFile) Q
-        (λ v h.
-        let p = and_parts (leb 1 c.arms) (leb c.arms arm_limit) t in (
-          record {
-            some_arms = leb-true 1 c.arms p.0;
-            few_arms = leb-true c.arms arm_limit p.1;
-            near_arms = small_near c.orders u;
-            short = leb-true (length b) file_limit v;
-          },
-          cc,
-        ))
-        (λ v h. absurd (grind arith)))
-        (λ u h. absurd (grind arith)))
-        (λ t h. absurd (grind arith))
-        e
+        let t : small_orders c.orders ≡ true = grind (arith, nat_tests) in
+        (record { some_arms = grind (arith, nat_tests); few_arms = grind (arith, nat_tests); near_arms = d.0 t; short = grind (arith, nat_tests) }, grind (arith, nat_tests))
 
 pub inverse : Inverse
 inverse = record { writes_lawful = writes_lawful; reads_back = reads_back; reads_lawful = reads_lawful; one_file = one_file }
 
 -- one call of the reader
-pub was_read : (file : List ℕ) (mem out : List Order) (r : Result Heading PlayFault) → ((i : ℕ) → get_or file i 0 < 256)
-    → r ≡ read_answer (says file) (length mem) → out ≡ read_memory (says file) mem → WasRead r file out
-was_read file mem out r b a m = go (says file) refl a m
-  where
-    go : (x : Result Contents PlayFault) → says file ≡ x → r ≡ read_answer x (length mem) → out ≡ read_memory x mem → WasRead r file out
-    go (Err f) x e h = subst (λ y. WasRead y file out) (sym e) tt
-    go (Ok c) x e h =
-        ⊎_elim
-        (λ t.
-        let is : out ≡ c.orders ++ drop (length c.orders) mem = h ∙ cond-true (leb (length c.orders) (length mem)) _ _ t in
-        let same : c.orders ≡ take (length c.orders) out = sym (ap (take (length c.orders)) is ∙ take_at c.orders (drop (length c.orders) mem) (length c.orders) refl) in
-        let k = reads_lawful file (All-from_get_or (λ y. y < 256) file 0 (λ i l. b i)) c x in
-        let d : c ≡ listed (heading c) out = ap (λ os. contents c.arms os) same in
-        subst (λ y. WasRead y file out) (sym (e ∙ cond-true (leb (length c.orders) (length mem)) _ _ t))
-        (subst (λ y. Lawful y × (file ≡ bytes_of y)) d k))
-        (λ t. subst (λ y. WasRead y file out) (sym (e ∙ cond-false (leb (length c.orders) (length mem)) _ _ t)) tt)
-        (cases_Bool (leb (length c.orders) (length mem)))
+pub was_read : (file : List ℕ) (memory out : List Order) (h : Heading) → ((i : ℕ) → get_or file i 0 < 256)
+    → Ok h ≡ heading_of (says file) → h.orders ≤ length memory → out ≡ read_memory (says file) memory → WasRead (Ok h) file out
+was_read file memory out h b e room m =
+    let s = said (says file) h e in
+    let os = told (says file) in
+    let is : out ≡ os ++ drop (length os) memory = grind (arith, nat_tests) in
+    let same : take h.orders out ≡ os = ap (take h.orders) is ∙ take_at os (drop (length os) memory) h.orders s.all in
+    subst (λ xs. Lawful (contents h.arms xs) × (file ≡ file_bytes h.arms xs)) (sym same)
+    (reads_lawful file (All-from_get_or (λ y. y < 256) file 0 (λ i l. b i)) (contents h.arms os) s.is)
 
 -- one call of the writer
-module _ (arms : ℕ) (os : List Order) (h : file_of arms os ≡ Ok (file_bytes arms os)) where
-  lawful : Lawful (contents arms os)
-  lawful = ((writes_lawful (contents arms os)).1 (file_bytes arms os) h).0
-
-  pub small_lawful : small_orders os ≡ true
-  small_lawful = near_small os lawful.near_arms
-
-  pub was_written : (mem out : List ℕ) (at : ℕ) → at ≡ length (file_bytes arms os) → out ≡ file_bytes arms os ++ drop (length (file_bytes arms os)) mem
-      → WasWritten (Ok at) (contents arms os) out
-  was_written mem out at e m =
-      let file = file_bytes arms os in
-      (lawful, ap says (ap (take at) m ∙ take_at file (drop (length file) mem) at (sym e)) ∙ (reads_back (contents arms os) lawful).1)
+pub was_written : (arms : ℕ) (os : List Order) (memory out : List ℕ) (size end : ℕ) → Ok size ≡ length_of (file_of arms os)
+    → end ≡ length (file_bytes arms os) → out ≡ file_bytes arms os ++ drop (length (file_bytes arms os)) memory
+    → WasWritten (Ok end) (contents arms os) out
+was_written arms os memory out size end w e m =
+    let file = file_bytes arms os in
+    let f : file_of arms os ≡ Ok file = grind (arith, nat_tests) in
+    let l = ((writes_lawful (contents arms os)).1 file f).0 in
+    let begun : take end out ≡ file = ap (take end) m ∙ take_at file (drop (length file) memory) end (sym e) in
+    (l, ap says begun ∙ (reads_back (contents arms os) l).1)
 
 -- a list is lawful if it has a file
-pub lawful_file : (arms : ℕ) (os : List Order) (r : Bool) → r ≡ is_ok (file_of arms os) → Decides r (Lawful (contents arms os))
-lawful_file arms os r e = (λ h. there (file_of arms os) refl (sym e ∙ h), λ l. e ∙ ap is_ok ((writes_lawful (contents arms os)).0 l))
+pub lawful_file : (arms : ℕ) (os : List Order) (r : Bool) → r ≡ is_ok (file_of arms os) → IsTrue r ↔ Lawful (contents arms os)
+lawful_file arms os r e = (λ h. there h (file_of arms os) refl, λ l. e ∙ ap is_ok ((writes_lawful (contents arms os)).0 l))
   where
-    there : (x : Result (List ℕ) WriteRefusal) → file_of arms os ≡ x → is_ok x ≡ true → Lawful (contents arms os)
-    there (Ok file) f h = ((writes_lawful (contents arms os)).1 file f).0
-    there (Err refusal) f h = absurd (false≢true h)
+    there : r ≡ true → (x : Result (List ℕ) WriteRefusal) → file_of arms os ≡ x → Lawful (contents arms os)
+    there h (Ok file) f = ((writes_lawful (contents arms os)).1 file f).0
+    there h (Err refusal) f = absurd (grind arith)

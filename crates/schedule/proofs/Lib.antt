@@ -1,7 +1,9 @@
 pub mod Examples
+pub mod FromFile
+pub mod FromList
 pub mod Groups
 pub mod Inverse
-pub mod Numbers
+pub mod Puts
 pub mod Steps
 pub mod Told
 pub mod Written

@@ -1,5 +1,5 @@
 -- One more order of a file.
-use Rattle.std.proofs.Common.{◌≡◌, ℕ, ◌+◌, ◌<◌, ◌≤◌, Bool, true, false, cond, ltb, List, [], ◌∷◌, length, drop, Some, None, Ok, Err, Option, Result, sym, refl, ap, ◌∙◌, arith, length-drop}
+use Rattle.std.proofs.Common.{◌≡◌, ℕ, ◌+◌, ◌<◌, ◌≤◌, cond, ltb, List, [], ◌∷◌, length, drop, Some, None, Ok, Err, Option, Result, sym, refl, ap, ◌∙◌, arith, length-drop}
 use Rattle.std.proofs.lemmas.List.{drop-drop}
 use Rattle.std.proofs.lemmas.Bool.Decides.{nat_tests}
 use Rattle.schedule.specs.declared.order.Order.{Order}
@@ -9,7 +9,7 @@ use Rattle.schedule.specs.declared.fault.NumberFault.{NumberFault}
 use Rattle.schedule.specs.declared.fault.ScheduleFault.{ScheduleFault}
 use Rattle.schedule.specs.Numbers.{number_from}
 use Rattle.schedule.specs.Orders.{order_of}
-use Rattle.schedule.specs.Reading.{and_then, with_count, in_schedule, known, order_from, orders_from, preceded}
+use Rattle.schedule.specs.Reading.{order_from, orders_from, preceded}
 
 -- how many bytes a number has
 abbrev pub span : List ℕ → ℕ
@@ -34,19 +34,15 @@ pub record Parts (place count : ℕ) (bytes : List ℕ) (p : Placed) : Type 0 wh
   pub after : p.next ≡ n.next
 
 pub order_parts : (place count : ℕ) (bytes : List ℕ) (p : Placed) → order_from place count bytes ≡ Ok p → Parts place count bytes p
-order_parts place count bytes p e = go (number_from place bytes) refl e
+order_parts place count bytes p e = go (number_from place bytes) refl
   where
-    kinds : (n : Number) → number_from place bytes ≡ Ok n → (o : Option Order) → order_of n.value ≡ o → known place count n.next o ≡ Ok p → Parts place count bytes p
-    kinds n r (Some o) k h =
-        let q : Placed = record { order = o; next = n.next } in
-        let i : q ≡ p = cc in
-        record { n = n; read = r; kind = k ∙ ap (λ x. Some x.order) i; after = sym (ap (λ x. x.next) i) }
-    kinds n r None k h = absurd (grind arith)
+    kinds : (n : Number) → number_from place bytes ≡ Ok n → (o : Option Order) → order_of n.value ≡ o → Parts place count bytes p
+    kinds n r (Some o) k = record { n = n; read = r; kind = grind arith; after = grind arith }
+    kinds n r None k = absurd (grind arith)
 
-    go : (r : Result Number NumberFault) → number_from place bytes ≡ r
-        → and_then (in_schedule (with_count count r)) (λ n. known place count n.next (order_of n.value)) ≡ Ok p → Parts place count bytes p
-    go (Ok n) r h = kinds n r (order_of n.value) refl h
-    go (Err f) r h = absurd (grind arith)
+    go : (r : Result Number NumberFault) → number_from place bytes ≡ r → Parts place count bytes p
+    go (Ok n) r = kinds n r (order_of n.value) refl
+    go (Err f) r = absurd (grind arith)
 
 module _ (place count : ℕ) (bytes : List ℕ) (p : Placed) (e : order_from place count bytes ≡ Ok p) where
   the_parts : Parts place count bytes p
@@ -64,28 +60,16 @@ unfolding orders_from
 orders_step place count [] p e = absurd (grind arith)
 orders_step place count (low ∷ []) p e =
     let h = order_ends place count (low ∷ []) p e in
-    let one : span (low ∷ []) ≡ 1 = grind (arith, nat_tests) in
-    ap (λ r. and_then r (λ q. Ok (q.order ∷ []))) e
-    ∙ ap (λ n. preceded p.order (orders_from p.next (count + 1) (drop n (low ∷ [])))) (sym one)
+    grind (arith, nat_tests)
 orders_step place count (low ∷ high ∷ rest) p e =
     let h = order_ends place count (low ∷ high ∷ rest) p e in
-    let pick : cond (ltb low 128) (orders_from (place + 1) (count + 1) (high ∷ rest)) (orders_from (place + 2) (count + 1) rest)
-    ≡ orders_from p.next (count + 1) (drop (span (low ∷ high ∷ rest)) (low ∷ high ∷ rest)) = rest_of (ltb low 128) h.0 in
-    ap (λ r. and_then r (λ q. preceded q.order (cond (ltb low 128) (orders_from (place + 1) (count + 1) (high ∷ rest)) (orders_from (place + 2) (count + 1) rest)))) e
-    ∙ ap (preceded p.order) pick
-  where
-    rest_of : (b : Bool) → p.next ≡ place + cond b 1 2
-        → cond b (orders_from (place + 1) (count + 1) (high ∷ rest)) (orders_from (place + 2) (count + 1) rest)
-        ≡ orders_from p.next (count + 1) (drop (cond b 1 2) (low ∷ high ∷ rest))
-    rest_of true h = ap (λ k. orders_from k (count + 1) (high ∷ rest)) (sym h)
-    rest_of false h = ap (λ k. orders_from k (count + 1) rest) (sym h)
+    grind (arith, nat_tests)
 
 pub orders_fault : (place count : ℕ) (bytes : List ℕ) (f : ScheduleFault) → 0 < length bytes → order_from place count bytes ≡ Err f → orders_from place count bytes ≡ Err f
 unfolding orders_from
 orders_fault place count [] f l e = absurd (omega arith)
-orders_fault place count (low ∷ []) f l e = ap (λ r. and_then r (λ q. Ok (q.order ∷ []))) e
-orders_fault place count (low ∷ high ∷ rest) f l e =
-    ap (λ r. and_then r (λ q. preceded q.order (cond (ltb low 128) (orders_from (place + 1) (count + 1) (high ∷ rest)) (orders_from (place + 2) (count + 1) rest)))) e
+orders_fault place count (low ∷ []) f l e = grind arith
+orders_fault place count (low ∷ high ∷ rest) f l e = grind arith
 
 pub orders_end : (place count : ℕ) → orders_from place count [] ≡ Ok []
 unfolding orders_from

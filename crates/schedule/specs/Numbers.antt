@@ -1,45 +1,25 @@
 -- A number in a file: one or two groups of seven bits, the lowest first, a byte each. The top bit says that another follows.
-use Rattle.std.specs.Prelude.{ℕ, ◌+◌, ◌*◌, ◌/◌, ◌%◌, ◌≤◌, cond, List, [], ◌∷◌, Ok, Err, Result, ◌==◌, nat_lt}
+use Rattle.std.specs.Prelude.{ℕ, ◌+◌, ◌*◌, ◌/◌, ◌%◌, if◌then◌else◌, List, [], ◌∷◌, Ok, Err, Result, ◌==◌, nat_lt}
 use Rattle.schedule.specs.declared.number.Number.{Number}
-use Rattle.schedule.specs.declared.number.Front.{Front}
-use Rattle.schedule.specs.declared.number.Front.TheVariants as F
-use Rattle.schedule.specs.declared.number.Groups.{Groups}
-use Rattle.schedule.specs.declared.number.Groups.TheVariants.{One, Two}
 use Rattle.schedule.specs.declared.fault.NumberFault.{NumberFault}
 use Rattle.schedule.specs.declared.fault.NumberFault.TheVariants.{Cut, Padded, Large}
 
 -- the bytes of a number
 abbrev pub groups : ℕ → List ℕ
-groups k = cond (nat_lt k 128) (k ∷ []) ((k % 128 + 128) ∷ (k / 128) ∷ [])
+groups k = if nat_lt k 128 then k ∷ [] else (k % 128 + 128) ∷ (k / 128) ∷ []
 
-abbrev pub group_list : Groups → List ℕ
-group_list (One low) = low ∷ []
-group_list (Two low high) = low ∷ high ∷ []
+abbrev pub one_group : ℕ → ℕ → Result Number NumberFault
+one_group place low = Ok (record { value = low; next = place + 1 })
 
--- the number of two groups, of which the second ends it and is not 0
+-- the second of two groups ends the number and is not 0
 abbrev pub two_groups : ℕ → ℕ → ℕ → Result Number NumberFault
 two_groups place low high =
-    cond (nat_lt high 128)
-    (cond (high == 0) (Err (Padded place)) (Ok (record { value = low % 128 + 128 * high; next = place + 2 })))
-    (Err (Large place))
-
--- the bytes that a number can take up
-abbrev pub front : List ℕ → Front
-front [] = F.Nothing
-front (low ∷ []) = F.Last low
-front (low ∷ high ∷ rest) = F.Two low high
-
--- so many bytes are there
-abbrev pub front_within : ℕ → ℕ → Front → Type 0
-front_within place end F.Nothing = Unit {0}
-front_within place end (F.Last low) = place + 1 ≤ end
-front_within place end (F.Two low high) = place + 2 ≤ end
-
-abbrev pub number_of : ℕ → Front → Result Number NumberFault
-number_of place F.Nothing = Err (Cut place)
-number_of place (F.Last low) = cond (nat_lt low 128) (Ok (record { value = low; next = place + 1 })) (Err (Cut place))
-number_of place (F.Two low high) = cond (nat_lt low 128) (Ok (record { value = low; next = place + 1 })) (two_groups place low high)
+    if high == 0 then Err (Padded place)
+    else if nat_lt high 128 then Ok (record { value = low % 128 + 128 * high; next = place + 2 })
+    else Err (Large place)
 
 -- the number that the bytes from a place on begin with, and the place after it
 abbrev pub number_from : ℕ → List ℕ → Result Number NumberFault
-number_from place bytes = number_of place (front bytes)
+number_from place [] = Err (Cut place)
+number_from place (low ∷ []) = if nat_lt low 128 then one_group place low else Err (Cut place)
+number_from place (low ∷ high ∷ rest) = if nat_lt low 128 then one_group place low else two_groups place low high

@@ -1,5 +1,5 @@
 -- An order and its number: four times the arm, and the kind.
-use Rattle.std.specs.Prelude.{ℕ, ◌+◌, ◌*◌, ◌/◌, ◌%◌, cond, Some, None, Option, ◌==◌}
+use Rattle.std.specs.Prelude.{ℕ, ◌+◌, ◌*◌, ◌/◌, ◌%◌, if◌then◌else◌, Some, None, Option, ◌==◌}
 use Rattle.schedule.specs.declared.order.Order.{Order}
 use Rattle.schedule.specs.declared.order.Order.TheVariants.{Begin, Step, Leave}
 
@@ -16,7 +16,7 @@ arm_of (Leave arm) = arm
 -- kind 3 is no order
 abbrev pub order_of : ℕ → Option Order
 order_of k =
-    cond (k % 4 == 0) (Some (Begin (k / 4)))
-    (cond (k % 4 == 1) (Some (Step (k / 4)))
-    (cond (k % 4 == 2) (Some (Leave (k / 4)))
-    None))
+    if k % 4 == 0 then Some (Begin (k / 4))
+    else if k % 4 == 1 then Some (Step (k / 4))
+    else if k % 4 == 2 then Some (Leave (k / 4))
+    else None

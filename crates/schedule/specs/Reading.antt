@@ -1,5 +1,5 @@
 -- What a file says: its arm count and its orders, or its first fault.
-use Rattle.std.specs.Prelude.{ℕ, ◌+◌, cond, List, [], ◌∷◌, length, drop, Some, None, Ok, Err, Option, Result, nat_le, nat_lt}
+use Rattle.std.specs.Prelude.{ℕ, ◌+◌, if◌then◌else◌, List, [], ◌∷◌, length, drop, Some, None, Ok, Err, Option, Result, nat_le, nat_lt}
 use Rattle.schedule.specs.declared.order.Order.{Order}
 use Rattle.schedule.specs.declared.number.Number.{Number}
 use Rattle.schedule.specs.declared.reader.Heading.{Heading}
@@ -47,7 +47,7 @@ numbered place count bytes f = and_then (in_schedule (with_count count (number_f
 
 -- the first number is the arm count
 abbrev pub arms_from : List ℕ → Result Number ScheduleFault
-arms_from bytes = numbered 0 0 bytes (λ n. cond (arm_count n.value) (Ok n) (Err S.ArmCount))
+arms_from bytes = numbered 0 0 bytes (λ n. if arm_count n.value then Ok n else Err S.ArmCount)
 
 -- each further one is an order, of a kind that is known
 abbrev pub known : ℕ → ℕ → ℕ → Option Order → Result Placed ScheduleFault
@@ -69,7 +69,7 @@ orders_from place count (low ∷ []) = and_then (order_from place count (low ∷
 orders_from place count (low ∷ high ∷ rest) =
     let one = orders_from (place + 1) (count + 1) (high ∷ rest) in
     let two = orders_from (place + 2) (count + 1) rest in
-    and_then (order_from place count (low ∷ high ∷ rest)) (λ p. preceded p.order (cond (nat_lt low 128) one two))
+    and_then (order_from place count (low ∷ high ∷ rest)) (λ p. preceded p.order (if nat_lt low 128 then one else two))
 
 abbrev pub order_count : Result (List Order) ScheduleFault → Result ℕ ScheduleFault
 order_count (Ok os) = Ok (length os)
@@ -81,9 +81,9 @@ contents_from n bytes =
 
 abbrev pub says : List ℕ → Result Contents PlayFault
 says bytes =
-    cond (nat_le (length bytes) file_limit)
-    (in_play (and_then (arms_from bytes) (λ n. contents_from n bytes)))
-    (Err LongFile)
+    if nat_le (length bytes) file_limit
+    then in_play (and_then (arms_from bytes) (λ n. contents_from n bytes))
+    else Err LongFile
 
 abbrev pub heading : Contents → Heading
 heading c = record { arms = c.arms; orders = length c.orders }
@@ -94,7 +94,7 @@ heading_of (Err fault) = Err fault
 
 -- what the reader answers, into memory for so many orders
 abbrev pub read_answer : Result Contents PlayFault → ℕ → Result Heading PlayFault
-read_answer (Ok c) room = cond (nat_le (length c.orders) room) (Ok (heading c)) (Err Full)
+read_answer (Ok c) room = if nat_le (length c.orders) room then Ok (heading c) else Err Full
 read_answer (Err fault) room = Err fault
 
 -- what the memory then holds

@@ -1,5 +1,6 @@
 -- The file of an arm count and a list of orders, or why it is refused.
-use Rattle.std.specs.Prelude.{ℕ, Bool, true, cond, ◌&&◌, List, [], ◌∷◌, ◌++◌, length, Ok, Err, Result, nat_le}
+use Rattle.std.specs.Prelude.{ℕ, Bool, if◌then◌else◌, List, ◌++◌, length, Ok, Err, Result, nat_le}
+use Rattle.std.specs.List.{flat_map, list_all}
 use Rattle.schedule.specs.declared.order.Order.{Order}
 use Rattle.schedule.specs.declared.writer.WriteRefusal.{WriteRefusal}
 use Rattle.schedule.specs.declared.writer.WriteRefusal.TheVariants.{ArmCount, Large, LongFile, Full}
@@ -14,33 +15,32 @@ refusal_number Large = 13
 refusal_number LongFile = 9
 refusal_number Full = 16
 
-unfoldable pub order_bytes : List Order → List ℕ
-order_bytes [] = []
-order_bytes (o ∷ os) = groups (order_number o) ++ order_bytes os
+abbrev pub order_bytes : List Order → List ℕ
+order_bytes orders = flat_map (λ o. groups (order_number o)) orders
 
 abbrev pub file_bytes : ℕ → List Order → List ℕ
 file_bytes arms orders = groups arms ++ order_bytes orders
 
 -- no order's number is too large
 abbrev pub small_orders : List Order → Bool
-small_orders [] = true
-small_orders (o ∷ os) = nat_le (order_number o) largest_number && small_orders os
+small_orders orders = list_all (λ o. nat_le (order_number o) largest_number) orders
+
+abbrev pub if_short : List ℕ → Result (List ℕ) WriteRefusal
+if_short file = if nat_le (length file) file_limit then Ok file else Err LongFile
 
 -- the file, or the refusal that comes first
 abbrev pub file_of : ℕ → List Order → Result (List ℕ) WriteRefusal
 file_of arms orders =
-    cond (arm_count arms)
-    (cond (small_orders orders)
-    (cond (nat_le (length (file_bytes arms orders)) file_limit) (Ok (file_bytes arms orders)) (Err LongFile))
-    (Err Large))
-    (Err ArmCount)
+    if arm_count arms
+    then (if small_orders orders then if_short (file_bytes arms orders) else Err Large)
+    else Err ArmCount
 
 abbrev pub length_of : Result (List ℕ) WriteRefusal → Result ℕ WriteRefusal
 length_of (Ok file) = Ok (length file)
 length_of (Err refusal) = Err refusal
 
 abbrev pub length_or_full : Result (List ℕ) WriteRefusal → ℕ → Result ℕ WriteRefusal
-length_or_full (Ok file) room = cond (nat_le (length file) room) (Ok (length file)) (Err Full)
+length_or_full (Ok file) room = if nat_le (length file) room then Ok (length file) else Err Full
 length_or_full (Err refusal) room = Err refusal
 
 -- what the writer answers, into memory for so many bytes

@@ -4,7 +4,7 @@ ghost use Rattle.schedule.specs.declared.fault.PlayFault.TheVariants as P;
 ghost use Rattle.schedule.specs.Faults.{fault_number, fault_place, fault_order, fault_layer};
 
 // What is wrong with a number, and the place of its first byte.
-#[derive(Clone, Copy)]
+#[derive(Clone, Copy, Debug, PartialEq, Eq)]
 pub enum NumberFault {
     Cut { place: usize },
     Padded { place: usize },
@@ -13,7 +13,7 @@ pub enum NumberFault {
 
 // What is wrong with a schedule: with a number of it, counted from the arm count as 0,
 // with the arm count, or with the kind of an order.
-#[derive(Clone, Copy)]
+#[derive(Clone, Copy, Debug, PartialEq, Eq)]
 pub enum ScheduleFault {
     Number { fault: NumberFault, order: usize },
     ArmCount,
@@ -21,7 +21,7 @@ pub enum ScheduleFault {
 }
 
 // Why a file is not read or played.
-#[derive(Clone, Copy)]
+#[derive(Clone, Copy, Debug, PartialEq, Eq)]
 pub enum PlayFault {
     LongFile,
     ShortMemory,
@@ -30,7 +30,7 @@ pub enum PlayFault {
 }
 
 // The layer that a fault arises in.
-#[derive(Clone, Copy)]
+#[derive(Clone, Copy, Debug, PartialEq, Eq)]
 pub enum Layer {
     Number,
     Schedule,
@@ -38,7 +38,7 @@ pub enum Layer {
 }
 
 // A number fault with the count of its order, on its way into a schedule fault.
-#[derive(Clone, Copy)]
+#[derive(Clone, Copy, Debug, PartialEq, Eq)]
 pub struct Counted {
     pub fault: NumberFault,
     pub order: usize,
@@ -71,24 +71,11 @@ impl PlayFault {
         match self {
             PlayFault::LongFile => 9,
             PlayFault::ShortMemory => 10,
-            PlayFault::Schedule(
-                ScheduleFault::Number {
-                    fault: NumberFault::Cut { .. },
-                    ..
-                },
-            ) => 11,
-            PlayFault::Schedule(
-                ScheduleFault::Number {
-                    fault: NumberFault::Padded { .. },
-                    ..
-                },
-            ) => 12,
-            PlayFault::Schedule(
-                ScheduleFault::Number {
-                    fault: NumberFault::Large { .. },
-                    ..
-                },
-            ) => 13,
+            PlayFault::Schedule(ScheduleFault::Number { fault, .. }) => match fault {
+                NumberFault::Cut { .. } => 11,
+                NumberFault::Padded { .. } => 12,
+                NumberFault::Large { .. } => 13,
+            },
             PlayFault::Schedule(ScheduleFault::ArmCount) => 14,
             PlayFault::Schedule(ScheduleFault::UnknownOrder { .. }) => 15,
             PlayFault::Full => 16,
@@ -101,9 +88,9 @@ impl PlayFault {
     {
         match self {
             PlayFault::Schedule(ScheduleFault::Number { fault, .. }) => match fault {
-                NumberFault::Cut { place } => place,
-                NumberFault::Padded { place } => place,
-                NumberFault::Large { place } => place,
+                NumberFault::Cut { place }
+                | NumberFault::Padded { place }
+                | NumberFault::Large { place } => place,
             },
             PlayFault::Schedule(ScheduleFault::UnknownOrder { place, .. }) => place,
             _ => 0,
@@ -115,8 +102,9 @@ impl PlayFault {
         ensures { result ≡ fault_order self }
     {
         match self {
-            PlayFault::Schedule(ScheduleFault::Number { order, .. }) => order,
-            PlayFault::Schedule(ScheduleFault::UnknownOrder { order, .. }) => order,
+            PlayFault::Schedule(
+                ScheduleFault::Number { order, .. } | ScheduleFault::UnknownOrder { order, .. },
+            ) => order,
             _ => 0,
         }
     }

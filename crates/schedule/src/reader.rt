@@ -9,14 +9,14 @@ use crate::number::{Number, number_at};
 use crate::order::Order;
 
 // What stands before the orders of a file, and how many orders there are.
-#[derive(Clone, Copy)]
+#[derive(Clone, Copy, Debug, PartialEq, Eq)]
 pub struct Heading {
     pub arms: u16,
     pub orders: usize,
 }
 
 // An order of a file, and the place after it.
-#[derive(Clone, Copy)]
+#[derive(Clone, Copy, Debug, PartialEq, Eq)]
 pub struct Placed {
     pub order: Order,
     pub next: usize,
@@ -26,13 +26,10 @@ pub struct Placed {
 fn counted(file: &[u8], at: usize, count: usize) -> Result<Number, Counted>
     ensures { result ≡ with_count count (number_from at (drop at file.now)) }
 {
-    match number_at(file, at) {
-        Ok(number) => Ok(number),
-        Err(fault) => Err(Counted {
-            fault,
-            order: count,
-        }),
-    }
+    number_at(file, at).map_err(|fault| Counted {
+        fault,
+        order: count,
+    })
 }
 
 // The arm count, the first number of a file, and the place after it.
@@ -51,16 +48,14 @@ pub fn order_at(file: &[u8], at: usize, count: usize) -> Result<Placed, Schedule
     ensures { result ≡ order_from at count (drop at file.now) }
 {
     let number = counted(file, at, count)?;
-    match Order::from_number(number.value) {
-        Some(order) => Ok(Placed {
-            order,
-            next: number.next,
-        }),
-        None => Err(ScheduleFault::UnknownOrder {
-            place: at,
-            order: count,
-        }),
-    }
+    let order = Order::from_number(number.value).ok_or(ScheduleFault::UnknownOrder {
+        place: at,
+        order: count,
+    })?;
+    Ok(Placed {
+        order,
+        next: number.next,
+    })
 }
 
 // How many orders stand from a place to the end of a file.
@@ -93,20 +88,17 @@ pub fn check(file: &[u8]) -> Result<Heading, PlayFault>
 }
 
 // Puts the orders of a file that is checked into memory that is long enough.
-fn put_orders(file: &[u8], heading: Heading, orders: &mut [Order]) -> Result<Heading, PlayFault>
+fn put_orders(file: &[u8], heading: Heading, orders: &mut [Order])
     requires checked { Ok heading ≡ heading_of (says file.now) }
     requires room { heading.orders ≤ length orders.old }
-    ensures answer { result ≡ Ok heading }
-    ensures memory { orders.new ≡ read_memory (says file.now) orders.old }
-    ensures inverse { WasRead result file.now orders.new }
+    ensures { orders.new ≡ read_memory (says file.now) orders.old }
 {
-    let mut at = arms_of(file)?.next;
+    let mut at = arms_of(file).unwrap().next;
     for i in 0..heading.orders {
-        let placed = order_at(file, at, i + 1)?;
+        let placed = order_at(file, at, i + 1).unwrap();
         orders[i] = placed.order;
         at = placed.next;
     }
-    Ok(heading)
 }
 
 // Puts the orders of a file at the start of the memory. A refusal leaves the memory as it was.
@@ -119,5 +111,6 @@ pub fn read(file: &[u8], orders: &mut [Order]) -> Result<Heading, PlayFault>
     if heading.orders > orders.len() {
         return Err(PlayFault::Full);
     }
-    put_orders(file, heading, orders)
+    put_orders(file, heading, orders);
+    Ok(heading)
 }

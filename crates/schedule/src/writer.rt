@@ -1,15 +1,14 @@
-ghost use Rattle.std.specs.Prelude.{◌≡◌, ◌+◌, ◌≤◌, ◌++◌, length, take, drop, is_ok, Ok, Decides};
+ghost use Rattle.std.specs.Prelude.{◌≡◌, ◌≤◌, ◌++◌, ◌↔◌, length, drop, is_ok, Ok, IsTrue};
 ghost use Rattle.schedule.specs.Laws.{Inverse, Lawful, WasWritten};
-ghost use Rattle.schedule.specs.Numbers.{group_list};
 ghost use Rattle.schedule.specs.Reading.{contents};
 ghost use Rattle.schedule.specs.Writing.{refusal_number, file_bytes, file_of, length_of, write_answer, write_memory};
 
 use crate::limit::{ARM_LIMIT, FILE_LIMIT, LARGEST_NUMBER};
-use crate::number::{Groups, groups_of};
+use crate::number::{put, width};
 use crate::order::Order;
 
 // Why a list of orders is not written.
-#[derive(Clone, Copy)]
+#[derive(Clone, Copy, Debug, PartialEq, Eq)]
 pub enum WriteRefusal {
     ArmCount,
     Large,
@@ -31,35 +30,6 @@ impl WriteRefusal {
     }
 }
 
-// How many bytes a number has.
-fn width(bytes: Groups) -> usize
-    ensures { result ≡ length (group_list bytes) }
-{
-    match bytes {
-        Groups::One(_) => 1,
-        Groups::Two(_, _) => 2,
-    }
-}
-
-// Writes a number's bytes at a place, and answers the place after them.
-fn put(out: &mut [u8], at: usize, bytes: Groups) -> usize
-    requires { at + length (group_list bytes) ≤ length out.old }
-    ensures end { result ≡ at + length (group_list bytes) }
-    ensures after { out.new ≡ take at out.old ++ (group_list bytes ++ drop (at + length (group_list bytes)) out.old) }
-{
-    match bytes {
-        Groups::One(low) => {
-            out[at] = low;
-            at + 1
-        }
-        Groups::Two(low, high) => {
-            out[at] = low;
-            out[at + 1] = high;
-            at + 2
-        }
-    }
-}
-
 // How many bytes the file of a list has.
 fn measure(arms: usize, orders: &[Order]) -> Result<usize, WriteRefusal>
     ensures { result ≡ length_of (file_of arms orders.now) }
@@ -67,13 +37,13 @@ fn measure(arms: usize, orders: &[Order]) -> Result<usize, WriteRefusal>
     if arms == 0 || arms > ARM_LIMIT {
         return Err(WriteRefusal::ArmCount);
     }
-    let mut size = width(groups_of(arms as u16));
+    let mut size = width(arms as u32);
     for (i, order) in orders.iter().enumerate() {
         let number = order.number();
         if number > LARGEST_NUMBER {
             return Err(WriteRefusal::Large);
         }
-        size += width(groups_of(number as u16));
+        size += width(number);
     }
     if size > FILE_LIMIT {
         return Err(WriteRefusal::LongFile);
@@ -87,11 +57,10 @@ fn fill(arms: usize, orders: &[Order], out: &mut [u8]) -> usize
     requires room { length (file_bytes arms orders.now) ≤ length out.old }
     ensures end { result ≡ length (file_bytes arms orders.now) }
     ensures after { out.new ≡ file_bytes arms orders.now ++ drop (length (file_bytes arms orders.now)) out.old }
-    ensures inverse { WasWritten (Ok result) (contents arms orders.now) out.new }
 {
-    let mut at = put(out, 0, groups_of(arms as u16));
+    let mut at = put(out, 0, arms as u32);
     for (i, order) in orders.iter().enumerate() {
-        at = put(out, at, groups_of(order.number() as u16));
+        at = put(out, at, order.number());
     }
     at
 }
@@ -119,7 +88,7 @@ fn has_file(arms: usize, orders: &[Order]) -> bool
 
 // Whether a list is lawful. Those lists are what the writer writes and the reader reads, and the two are inverse.
 pub fn is_lawful(arms: usize, orders: &[Order]) -> bool
-    ensures answer { Decides result (Lawful (contents arms orders.now)) }
+    ensures answer { IsTrue result ↔ Lawful (contents arms orders.now) }
     ensures laws { Inverse }
 {
     has_file(arms, orders)

@@ -1,14 +1,13 @@
-use Rattle.std.proofs.Common.{length, Err, sym, ap, ◌∙◌, arith}
-use Rattle.std.proofs.lemmas.Result.{err_from_is_err_and}
-use Rattle.schedule.specs.Reading.{says, read_answer, read_memory}
+use Rattle.std.proofs.Common.{sym, ap, arith}
+use Rattle.schedule.specs.Reading.{says, read_memory}
 use Rattle.schedule.proofs.Inverse.{was_read}
 use Rattle.schedule.proofs.Told.{refused}
 use Rattle.schedule.proofs.reader.read.Goals as goal
 
-pub returns-in_err-heading : goal.returns-in_err-heading
-returns-in_err-heading c =
-    let p = err_from_is_err_and c.from_residual.result c.from_residual.ensures.1 in
-    let e = refused (says c.args.file.now) c.in_err-heading.field-0.0 c.in_err-heading.ensures in
-    let a = p.1 ∙ ap Err p.2 ∙ sym (ap (λ r. read_answer r (length c.args.orders.now)) e) in
-    let m = sym (ap (λ r. read_memory r c.args.orders.now) e) in
-    record { answer = a; memory = m; inverse = was_read c.args.file.now c.args.orders.now c.args.orders.now c.from_residual.result (λ i. omega (arith, c.type_inv.file i)) a m }
+pub returns-in_err-heading-clause-memory : goal.returns-in_err-heading-clause-memory
+returns-in_err-heading-clause-memory c =
+    sym (ap (λ r. read_memory r c.args.orders.now) (refused (says c.args.file.now) c.in_err-heading.field-0.0 c.in_err-heading.ensures))
+
+pub returns-clause-inverse : goal.returns-clause-inverse
+returns-clause-inverse c =
+    was_read c.args.file.now c.args.orders.now c.put_orders.new.orders c.in_ok-heading.heading (λ i. omega (arith, c.type_inv.file i)) c.in_ok-heading.ensures (omega arith) c.put_orders.ensures

@@ -4,6 +4,7 @@ use Rattle.schedule.proofs.writer.fill.Given as goal
 
 -- the bytes written so far are those of the orders so far, and the rest is as it was
 abbrev pub invariant-loop-i : goal.invariant-loop-i
-invariant-loop-i l =
-    (l.at ≡ length (file_bytes l.arms (take l.i l.orders)))
-    × (l.out ≡ file_bytes l.arms (take l.i l.orders) ++ drop l.at l.initial.out)
+invariant-loop-i l = record {
+  end : l.at ≡ length (file_bytes l.arms (take l.i l.orders));
+  after : l.out ≡ file_bytes l.arms (take l.i l.orders) ++ drop l.at l.fn.out;
+}
