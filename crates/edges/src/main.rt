@@ -37,10 +37,9 @@ fn play_over<B: Bank + Drop>(file: &[u8], bank: B, memory: &mut [u8]) -> anyhow:
     }
     match played.answer {
         Ok(length) => Ok(length),
-        Err(fault) => match fault_line(fault, memory) {
-            Ok(length) => Ok(length),
-            Err(_) => Err(anyhow!("no memory for a fault line")),
-        },
+        Err(fault) => {
+            fault_line(fault, memory).map_err(|_| anyhow!("no memory for a fault line"))
+        }
     }
 }
 
@@ -57,17 +56,15 @@ fn short_of_memory(file: &[u8]) -> anyhow::Result<u8> {
 // Reads a file and writes its orders again.
 fn written_again(file: &[u8]) -> &'static str {
     let mut orders = [Order::Begin(0); FILE_LIMIT];
-    let heading = match read(file, &mut orders) {
-        Ok(heading) => heading,
-        Err(_) => return "none",
+    let Ok(heading) = read(file, &mut orders) else {
+        return "none";
     };
-    let list = match orders.get(0..heading.orders) {
-        Some(list) => list,
-        None => return "none",
+    let Some(list) = orders.get(..heading.orders) else {
+        return "none";
     };
     let mut bytes = [0; FILE_LIMIT];
     match write(usize::from(heading.arms), list, &mut bytes) {
-        Ok(length) if bytes.get(0..length) == Some(file) => "same",
+        Ok(length) if bytes.get(..length) == Some(file) => "same",
         _ => "another",
     }
 }
@@ -78,7 +75,7 @@ fn show(rt: &HostRuntime, name: &str) -> anyhow::Result<()> {
     println!(rt; "{name}: {count} bytes")?;
     let mut text = [0; REPORT_ROOM];
     let length = play_over(&file, BitBank::new(), &mut text)?;
-    if let Some(shown) = text.get(0..length) {
+    if let Some(shown) = text.get(..length) {
         rt.stdout().write_all(shown)?;
     }
     let mut registers = [9; REGISTERS];

@@ -36,7 +36,7 @@ fn main(rt: HostRuntime) -> anyhow::Result<()> {
 
 // Prints the text at the start of the memory.
 fn print_text(rt: &HostRuntime, memory: &[u8], length: usize) -> anyhow::Result<()> {
-    if let Some(text) = memory.get(0..length) {
+    if let Some(text) = memory.get(..length) {
         rt.stdout().write_all(text)?;
     }
     Ok(())
