@@ -37,7 +37,7 @@ pub struct Gate<B: Bank> {
 }
 
 // What look tells of an arm.
-#[derive(Clone, Copy)]
+#[derive(Clone, Copy, Debug, PartialEq, Eq)]
 pub struct View {
     pub phase: Phase,
     // None where it is missing.
@@ -50,7 +50,7 @@ pub struct View {
 }
 
 // What tally tells of two arms.
-#[derive(Clone, Copy)]
+#[derive(Clone, Copy, Debug, PartialEq, Eq)]
 pub struct Tally {
     // How often the other went inside past the first.
     pub count: u8,
