@@ -1,35 +1,14 @@
 -- The gate at the end of a play, and what the play answers.
-use Rattle.std.proofs.Common.{◌≡◌, ℕ, ◌^◌, ◌<◌, ◌≤◌, true, List, [], ◌∷◌, length, Ok, Err, IfOk, Result, sym, ap, arith}
+use Rattle.std.proofs.Common.{◌≡◌, ℕ, ◌≤◌, true, List, length, Ok, Err, Result, sym, ap, arith}
 use Rattle.std.proofs.lemmas.Bool.Decides.{nat_tests}
-use Rattle.door.specs.Calls.{refusal_of, after}
-use Rattle.door.specs.declared.call.Call.TheVariants.{Begin as begin, Step as step, Admit as admit, Leave as leave}
 use Rattle.door.specs.States.{State, made}
-use Rattle.door.proofs.Accepted.{unless_both}
-use Rattle.door.proofs.Bounds.{Bounded, after_bounded, made_bounded}
 use Rattle.schedule.specs.Reading.{Contents, says, heading, heading_of}
 use Rattle.schedule.specs.declared.fault.PlayFault.{PlayFault}
-use Rattle.schedule.specs.declared.order.Order.{Order}
-use Rattle.schedule.specs.declared.order.Order.TheVariants.{Begin, Step, Leave}
 use Rattle.schedule.specs.declared.reader.Heading.{Heading}
 use Rattle.play.specs.Limits.{report_room}
-use Rattle.play.specs.Playing.{obeyed, obeyed_all, refusals, obeyed_by, refused_by, playable, start, end, play_text, play_answer, play_regs, play_memory}
+use Rattle.play.specs.Playing.{refusals, obeyed_by, refused_by, playable, start, end, play_text, play_answer, play_regs, play_memory}
 use Rattle.play.specs.Reports.{report_text, takes, text_answer, text_memory}
 use Rattle.play.specs.Text.{overwritten}
-use Rattle.play.proofs.Fits.{report_fits}
-
-obeyed_bounded : (s : State) (o : Order) → Bounded s → Bounded (obeyed s o)
-obeyed_bounded s (Begin i) h = after_bounded s (begin i) h
-obeyed_bounded s (Step i) h = after_bounded s (step i) h
-obeyed_bounded s (Leave i) h =
-    unless_both (refusal_of s (admit i)) (after (after s (admit i)) (leave s.number i)) s Bounded
-    (λ _. after_bounded (after s (admit i)) (leave s.number i) (after_bounded s (admit i) h)) h
-
-all_bounded : (s : State) (os : List Order) → Bounded s → Bounded (obeyed_all s os)
-all_bounded s [] h = h
-all_bounded s (o ∷ os) h = all_bounded (obeyed s o) os (obeyed_bounded s o h)
-
-pub end_bounded : (high : ℕ) (regs : List ℕ) (c : Contents) → Bounded (end high regs c)
-end_bounded high regs c = all_bounded (start high regs c) c.orders (made_bounded high 0 c.arms regs)
 
 -- a file that can be played is short, and there is memory for its report
 pub record Ready (file : List ℕ) (room : ℕ) (h : Heading) : Type 0 where
@@ -42,35 +21,32 @@ ready_from file room h e = record {
   enough = grind (arith, nat_tests);
 }
 
--- what a play of a file that says p comes to: what its text is taken as, what the bank holds, and that the text is short
+-- what a play of a file that says p comes to: what its text is taken as, and what the bank holds
 pub record Outcome (high : ℕ) (regs memory : List ℕ) (p : Result Contents PlayFault) (text now : List ℕ) : Type 0 where
   pub answer : text_answer memory text ≡ play_answer high regs p
   pub report : text_memory memory text ≡ play_memory high regs memory p
   pub registers : now ≡ play_regs high regs p
-  pub fits : IfOk (text_answer memory text) (λ n. n ≤ report_room)
 
 taken : (high : ℕ) (regs memory : List ℕ) (c : Contents) (text now : List ℕ) → text ≡ play_text high regs c → now ≡ (end high regs c).regs
-    → report_room ≤ length memory → length text ≤ report_room → Outcome high regs memory (Ok c) text now
-taken high regs memory c text now text_is now_is room short =
-    let takes_it : takes memory text ≡ true = grind (arith, nat_tests) in
+    → report_room ≤ length memory → Outcome high regs memory (Ok c) text now
+taken high regs memory c text now text_is now_is room =
+    let takes_it : takes memory ≡ true = grind (arith, nat_tests) in
     record {
       answer = rw takes_it (ap (λ t. Ok (length t)) text_is);
       report = rw takes_it (ap (overwritten memory) text_is);
       registers = now_is;
-      fits = rw takes_it short;
     }
 
 -- once the gate is made and the orders are obeyed
 module _ (high : ℕ) (regs memory file : List ℕ) (h : Heading) (g₀ g₁ : State) (no_ones : ℕ) (made_is : g₀ ≡ made high 0 h.arms regs)
-    (after_is : g₁ ≡ obeyed_by (says file) g₀) (refused_is : no_ones ≡ refused_by (says file) g₀) (fewer : no_ones < 2 ^ 64)
-    (few : h.orders < 2 ^ 64) (room : report_room ≤ length memory) where
+    (after_is : g₁ ≡ obeyed_by (says file) g₀) (refused_is : no_ones ≡ refused_by (says file) g₀)
+    (room : report_room ≤ length memory) where
   of_contents : (c : Contents) → says file ≡ Ok c → h ≡ heading c → Outcome high regs memory (Ok c) (report_text g₁ h.orders no_ones) g₁.regs
   of_contents c says_is h_is =
       let end_is : g₁ ≡ end high regs c = rw (after_is, says_is, made_is, h_is) in
       let no_ones_is : no_ones ≡ refusals (start high regs c) c.orders = rw (refused_is, says_is, made_is, h_is) in
       let text_is : report_text g₁ h.orders no_ones ≡ play_text high regs c = rw (end_is, no_ones_is, h_is) in
-      let bounded : Bounded g₁ = rw end_is (end_bounded high regs c) in
-      taken high regs memory c _ _ text_is (ap (λ s. s.regs) end_is) room (report_fits g₁ h.orders no_ones bounded few fewer)
+      taken high regs memory c _ _ text_is (ap (λ s. s.regs) end_is) room
 
   pub outcome : (p : Result Contents PlayFault) → p ≡ says file → Ok h ≡ heading_of p → Outcome high regs memory p (report_text g₁ h.orders no_ones) g₁.regs
   outcome (Ok c) p_is h_is = of_contents c (sym p_is) cc

@@ -1,11 +1,16 @@
 -- A report fits the least memory that is asked for.
-use Rattle.std.proofs.Common.{ℕ, zero, suc, ◌+◌, ◌-◌, ◌*◌, ◌^◌, ◌<◌, ◌≤◌, List, length, slice_index, Some, None, Option, mul-suc, arith, length-append}
+use Rattle.std.proofs.Common.{ℕ, zero, suc, ◌+◌, ◌-◌, ◌*◌, ◌^◌, ◌<◌, ◌≤◌, List, [], ◌∷◌, length, slice_index, Some, None, Option, subst, inl, inr, mul-suc, arith, length-append}
+use Rattle.std.proofs.lemmas.Bool.{cases_lt}
+use Rattle.std.proofs.lemmas.Grind.{not_there}
 use Rattle.std.proofs.lemmas.Fmt.{length-decimal-le}
 use Rattle.std.proofs.lemmas.Bool.Decides.{nat_tests}
 use Rattle.door.specs.Limits.{arm_limit, tally_limit}
 use Rattle.door.specs.Positions.{side_of}
 use Rattle.door.specs.States.{State, arm_at, bit_of}
-use Rattle.door.proofs.Bounds.{Bounded}
+use Rattle.door.specs.Calls.{after, run}
+use Rattle.door.specs.Law.{Origin, IsReached}
+use Rattle.door.specs.declared.call.Call.{Call}
+use Rattle.door.proofs.Bounds.{Bounded, after_bounded, made_bounded}
 use Rattle.play.specs.Limits.{report_room}
 use Rattle.play.specs.Text.{lines}
 use Rattle.gate.specs.Answers.{largest_count}
@@ -50,9 +55,24 @@ first_short s orders refused h o r =
     let bit_digits = length-decimal-le 1 (bit_of s) in
     simp length-append (omega arith)
 
-pub report_fits : (s : State) (orders refused : ℕ) → Bounded s → orders < 2 ^ 64 → refused < 2 ^ 64 → length (report_text s orders refused) ≤ report_room
-report_fits s orders refused h o r =
+bounded_fits : (s : State) (orders refused : ℕ) → Bounded s → orders < 2 ^ 64 → refused < 2 ^ 64 → length (report_text s orders refused) ≤ report_room
+bounded_fits s orders refused h o r =
     let few = h.few in
     let first = first_short s orders refused h o r in
     let rest = lines_short (arm_line s) 22 s.n (λ k l. line_short s k h (omega arith)) in
     omega (arith, length-append (first_line s orders refused) (lines (arm_line s) s.n))
+
+run_bounded : (s : State) (cs : List Call) → Bounded s → Bounded (run s cs)
+run_bounded s [] h = h
+run_bounded s (c ∷ cs) h = run_bounded (after s c) cs (after_bounded s c h)
+
+-- the report of a gate in hand
+pub report_fits : (s : State) (orders refused : ℕ) → IsReached s → orders < 2 ^ 64 → refused < 2 ^ 64 → length (report_text s orders refused) ≤ report_room
+report_fits s orders refused reached o r =
+    let short : Origin s → length (report_text s orders refused) ≤ report_room = λ origin.
+    let start = made_bounded origin.high origin.number origin.wanted origin.regs in
+    bounded_fits s orders refused (subst Bounded origin.leads (run_bounded _ origin.calls start)) o r in
+    elim (cases_lt report_room (length (report_text s orders refused))) [
+      | inl l ↦ absurd (not_there reached (λ origin. let h = short origin in omega arith))
+      | inr l ↦ l
+    ]

@@ -1,5 +1,5 @@
 -- The text of a report and of a fault, and the memory that takes it.
-use Rattle.std.specs.Prelude.{ℕ, ◌+◌, Bool, if◌then◌else◌, ◌&&◌, List, [], ◌∷◌, ◌++◌, length, Some, None, Ok, Err, codes, decimal, Option, Result, nat_le}
+use Rattle.std.specs.Prelude.{ℕ, ◌+◌, Bool, if◌then◌else◌, List, [], ◌∷◌, ◌++◌, length, Some, None, Ok, Err, codes, decimal, Option, Result, nat_le}
 use Rattle.door.specs.Positions.{letter_of}
 use Rattle.door.specs.States.{State, arm_at, phase_at, bit_of}
 use Rattle.gate.specs.Answers.{largest_count}
@@ -41,12 +41,12 @@ fault_text f =
     codes "fault " ++ decimal (fault_number f) ++ codes " at " ++ decimal (fault_place f)
     ++ codes " order " ++ decimal (fault_order f) ++ codes " layer " ++ layer_word (fault_layer f) ++ codes "\n"
 
--- memory takes a text if it has room for any report, and for this text
-abbrev pub takes : List ℕ → List ℕ → Bool
-takes memory text = nat_le report_room (length memory) && nat_le (length text) (length memory)
+-- memory takes a text if it has room for any report
+abbrev pub takes : List ℕ → Bool
+takes memory = nat_le report_room (length memory)
 
 abbrev pub text_answer : List ℕ → List ℕ → Result ℕ PlayFault
-text_answer memory text = if takes memory text then Ok (length text) else Err ShortMemory
+text_answer memory text = if takes memory then Ok (length text) else Err ShortMemory
 
 abbrev pub text_memory : List ℕ → List ℕ → List ℕ
-text_memory memory text = if takes memory text then overwritten memory text else memory
+text_memory memory text = if takes memory then overwritten memory text else memory

@@ -1,5 +1,6 @@
-ghost use Rattle.std.specs.Prelude.{◌≡◌, ◌≤◌, length};
+ghost use Rattle.std.specs.Prelude.{◌≡◌, ◌≤◌, length, IfOk};
 ghost use Rattle.gate.specs.Whole.{whole};
+ghost use Rattle.play.specs.Limits.{report_room};
 ghost use Rattle.play.specs.Reports.{report_text, layer_word, fault_text, text_answer, text_memory};
 
 use crate::lines::{FIRST_ROOM, LINE_ROOM, arm_line, first_line};
@@ -21,13 +22,15 @@ const PAGE_ROOM: usize = FIRST_ROOM + ARM_LIMIT * LINE_ROOM;
 
 // Copies a text to the start of memory that has room for any report; else the memory stays as it was.
 fn deliver(text: &str, memory: &mut [u8]) -> Result<usize, PlayFault>
+    requires { length text.now ≤ report_room }
     ensures answer { result ≡ text_answer memory.old text.now }
     ensures after { memory.new ≡ text_memory memory.old text.now }
+    ensures fits { IfOk result (λ n. n ≤ report_room) }
 {
-    let size = text.len();
-    if memory.len() < REPORT_ROOM || memory.len() < size {
+    if memory.len() < REPORT_ROOM {
         return Err(PlayFault::ShortMemory);
     }
+    let size = text.len();
     memory[..size].copy_from_slice(text.as_bytes());
     Ok(size)
 }
@@ -48,6 +51,7 @@ fn layer_word(layer: Layer) -> &'static str
 pub fn fault_line(fault: PlayFault, memory: &mut [u8]) -> Result<usize, PlayFault>
     ensures answer { result ≡ text_answer memory.old (fault_text fault) }
     ensures after { memory.new ≡ text_memory memory.old (fault_text fault) }
+    ensures fits { IfOk result (λ n. n ≤ report_room) }
 {
     let mut digits = Buffer::new();
     let mut line = ArrayString::<FAULT_ROOM>::new();
@@ -74,6 +78,7 @@ pub fn report<B: Bank>(
     ensures answer { result ≡ text_answer memory.old (report_text (whole gate.now) orders refused) }
     ensures after { memory.new
         ≡ text_memory memory.old (report_text (whole gate.now) orders refused) }
+    ensures fits { IfOk result (λ n. n ≤ report_room) }
 {
     let mut page = ArrayString::<PAGE_ROOM>::new();
     page.push_str(first_line(gate, orders, refused).as_str());

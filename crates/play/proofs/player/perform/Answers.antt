@@ -1,4 +1,4 @@
-use Rattle.std.proofs.Common.{◌≡◌, ◌^◌, ◌<◌, length, ap, ◌∙◌, rules}
+use Rattle.std.proofs.Common.{◌≡◌, length, ap, ◌∙◌}
 use Rattle.door.specs.States.{made}
 use Rattle.gate.specs.Whole.{whole}
 use Rattle.play.specs.Playing.{playable}
@@ -18,12 +18,11 @@ returns g c =
     let k = c.obey_all-refused.result in
     let ready = ready_from file (length memory) h c.in-Ok.ensures in
     let made_is : g₀ ≡ made high 0 h.arms regs = cc in
-    let few : c.in-Ok.heading.orders < 2 ^ 64 = search rules in
-    let o = outcome high regs memory file h g₀ g₁ k made_is c.obey_all-refused.ensures.after c.obey_all-refused.ensures.refused c.obey_all-refused.type_inv few ready.enough
+    let o = outcome high regs memory file h g₀ g₁ k made_is c.obey_all-refused.ensures.after c.obey_all-refused.ensures.refused ready.enough
     (playable file (length memory)) ready.same c.in-Ok.ensures in
     record {
       answer = c.report-answer.ensures.answer ∙ o.answer;
       registers = ap values c.into_bank.ensures ∙ o.registers;
       report = c.report-answer.ensures.after ∙ o.report;
-      fits = rw c.report-answer.ensures.answer o.fits;
+      fits = c.report-answer.ensures.fits;
     }
