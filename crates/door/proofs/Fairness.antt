@@ -152,11 +152,8 @@ law s high number wanted regs past e = subst (Fair (made high number wanted regs
 
 -- the answer of way
 way_accepted : (p : Phase) → T (same_phase p P.W) → way_refusal p ≡ None
-way_accepted P.I h = absurd h
-way_accepted P.D h = absurd h
 way_accepted P.W h = refl
-way_accepted P.F h = absurd h
-way_accepted P.X h = absurd h
+way_accepted p h = absurd h
 
 yes_is : (b : Bool) → (◌≡◌ {A = Result Bool Refusal} (Ok b) (Ok true)) ↔ T b
 yes_is true = ((λ e. tt), (λ h. refl))

@@ -11,10 +11,7 @@ use Rattle.door.proofs.machine.Machine.{Stance, idle, d1, d2, d3, d4, d5, waits,
 abbrev pub late : Place → Bool
 late W1 = false
 late W2 = false
-late W3 = true
-late W4 = true
-late W5 = true
-late W6 = true
+late p = true
 
 -- no arm has the side other than s, or the group differs from s
 abbrev pub Free : Bool → (ℕ → Stance) → Bool → Type 0
@@ -25,16 +22,11 @@ abbrev pub Passed : Bool → (ℕ → Stance) → Bool → ℕ → Place → Typ
 Passed β arms s j p = T (same β s) → (b : ℕ) → T (has (not s) (arms b)) → (j ≤ b) × (T (late p) → b ≡ j → T (not (choosing (arms b))))
 
 abbrev pub Own : ℕ → Bool → (ℕ → Stance) → Stance → Type 0
-Own n β arms (idle g) = Unit {0}
-Own n β arms (d1 g) = Unit {0}
-Own n β arms (d2 g) = Unit {0}
-Own n β arms (d3 s g) = Unit {0}
-Own n β arms (d4 s) = Unit {0}
-Own n β arms (d5 s) = Unit {0}
 Own n β arms (waits s j p) = (1 ≤ j) × (j ≤ n) × Passed β arms s j p
 Own n β arms (inside s o) = Free β arms s
 Own n β arms (x1 s) = Free β arms s
 Own n β arms (x2 s) = T (same β (not s))
+Own n β arms a = Unit {0}
 
 abbrev pub Ranged : ℕ → (ℕ → Stance) → Type 0
 Ranged n arms = (k : ℕ) (t : Bool) → T (has t (arms k)) → (1 ≤ k) × (k ≤ n)
@@ -44,25 +36,15 @@ abbrev pub Awake : ℕ → (ℕ → Stance) → Type 0
 Awake n arms = (k : ℕ) → T (not (at P.I (arms k))) → (1 ≤ k) × (k ≤ n)
 
 abbrev pub far : Place → Bool
-far W1 = false
-far W2 = false
-far W3 = false
 far W4 = true
 far W5 = true
 far W6 = true
+far p = false
 
 -- at its own index an arm waits at W1 to W3 only
 abbrev pub Home : ℕ → Stance → Type 0
-Home k (idle g) = Unit {0}
-Home k (d1 g) = Unit {0}
-Home k (d2 g) = Unit {0}
-Home k (d3 s g) = Unit {0}
-Home k (d4 s) = Unit {0}
-Home k (d5 s) = Unit {0}
 Home k (waits s j p) = j ≡ k → T (not (far p))
-Home k (inside s o) = Unit {0}
-Home k (x1 s) = Unit {0}
-Home k (x2 s) = Unit {0}
+Home k a = Unit {0}
 
 pub record Inv (g : Machine) : Type 0 where
   pub home : (k : ℕ) → Home k (g.arms k)
@@ -78,16 +60,8 @@ pub no_side_flag : (a : Stance) (s : Bool) → T (not (flag a)) → T (not (choo
 no_side_flag a s f c h = grind arith
 
 abbrev pub at_x1 : Stance → Bool
-at_x1 (idle g) = false
-at_x1 (d1 g) = false
-at_x1 (d2 g) = false
-at_x1 (d3 s g) = false
-at_x1 (d4 s) = false
-at_x1 (d5 s) = false
-at_x1 (waits s j p) = false
-at_x1 (inside s o) = false
 at_x1 (x1 s) = true
-at_x1 (x2 s) = false
+at_x1 a = false
 
 -- the step of a waiting arm keeps what it has passed, and an arm goes inside only while it is free to
 module _ (n : ℕ) (β : Bool) (arms : ℕ → Stance) (range : Ranged n arms) where
@@ -127,16 +101,11 @@ module _ (n : ℕ) (β : Bool) (arms : ℕ → Stance) (range : Ranged n arms) w
 
   -- a move of an arm not in X1, seen with the arms as they were
   step_own : 1 ≤ n → (a : Stance) → T (not (at_x1 a)) → Own n β arms a → Own n β arms (step_arm n β arms a)
-  step_own pos (idle g) d h = tt
-  step_own pos (d1 g) d h = tt
-  step_own pos (d2 g) d h = tt
-  step_own pos (d3 s g) d h = tt
-  step_own pos (d4 s) d h = tt
   step_own pos (d5 s) d h = (omega arith, pos, (λ q b k. ((range b (not s) k).0, (λ l. absurd l))))
   step_own pos (waits s j p) d h = wait_own s j p h
   step_own pos (inside s o) d h = h
   step_own pos (x1 s) d h = absurd d
-  step_own pos (x2 s) d h = tt
+  step_own pos a d h = tt
 
 without_own : (n : ℕ) (β : Bool) (arms : ℕ → Stance) (a : Stance)
     → (Own n β arms a → Own n β arms (begin_arm a)) × (Own n β arms a → Own n β arms (admit_arm a)) × (Own n β arms a → Own n β arms (leave_arm a))
@@ -153,13 +122,10 @@ seen_step : (n : ℕ) (β : Bool) (arms : ℕ → Stance) (a : Stance) → Seen 
 seen_step n β arms (idle g) = λ t h. absurd h
 seen_step n β arms (d1 g) = λ t h. absurd h
 seen_step n β arms (d2 g) = λ t h. inr h
-seen_step n β arms (d3 s g) = λ t h. inl (h, λ x. x)
-seen_step n β arms (d4 s) = λ t h. inl (h, λ x. x)
 seen_step n β arms (d5 s) = λ t h. inl (h, λ x. tt)
 seen_step n β arms (waits s j p) = outcome (Seen β (waits s j p)) n β (arms j) s (λ j p t h. inl (h, λ x. x)) (λ t h. inl (h, λ x. x)) j p
-seen_step n β arms (inside s o) = λ t h. inl (h, λ x. x)
-seen_step n β arms (x1 s) = λ t h. inl (h, λ x. x)
 seen_step n β arms (x2 s) = λ t h. absurd h
+seen_step n β arms a = λ t h. inl (h, λ x. x)
 
 pub seen_act : (m : Move) (n : ℕ) (β : Bool) (arms : ℕ → Stance) (a : Stance) → Seen β a (act m n β arms a)
 seen_act begin n β arms a t h = inl (grind arith)
@@ -169,26 +135,18 @@ seen_act leave n β arms a t h = inl (grind arith)
 
 -- the others' facts last while the group does
 keep : (n : ℕ) (β : Bool) (arms arms' : ℕ → Stance) → ((k : ℕ) → Seen β (arms k) (arms' k)) → (a : Stance) → Own n β arms a → Own n β arms' a
-keep n β arms arms' seen (idle g) h = tt
-keep n β arms arms' seen (d1 g) h = tt
-keep n β arms arms' seen (d2 g) h = tt
-keep n β arms arms' seen (d3 s g) h = tt
-keep n β arms arms' seen (d4 s) h = tt
-keep n β arms arms' seen (d5 s) h = tt
 keep n β arms arms' seen (waits s j p) h = (h.0, h.1, λ q b hb. ⊎_elim (λ x. ((h.2 q b x.0).0, λ l e. contra (choosing (arms b)) (choosing (arms' b)) x.1 ((h.2 q b x.0).1 l e))) (λ y. absurd (opposite β s q y)) (seen b (not s) hb))
 keep n β arms arms' seen (inside s o) h = λ k hk. ⊎_elim (λ x. h k x.0) (λ y. same_sym (not s) β y) (seen k (not s) hk)
 keep n β arms arms' seen (x1 s) h = λ k hk. ⊎_elim (λ x. h k x.0) (λ y. same_sym (not s) β y) (seen k (not s) hk)
 keep n β arms arms' seen (x2 s) h = h
+keep n β arms arms' seen a h = tt
 
 -- a step of X1 that turns the group
 abbrev pub turns : Move → Stance → Bool
-turns begin a = false
 turns step a = at_x1 a
-turns admit a = false
-turns leave a = false
+turns m a = false
 
 pub turn_same : (m : Move) (β : Bool) (a : Stance) → T (not (turns m a)) → turn m β a ≡ β
-turn_same begin β a d = refl
 turn_same step β a d = go a d
   where
     go : (a : Stance) → T (not (at_x1 a)) → turn_step β a ≡ β
@@ -202,8 +160,7 @@ turn_same step β a d = go a d
     go (inside s o) d = refl
     go (x1 s) d = absurd d
     go (x2 s) d = refl
-turn_same admit β a d = refl
-turn_same leave β a d = refl
+turn_same m β a d = refl
 
 pub act_own : (m : Move) (n : ℕ) (β : Bool) (arms : ℕ → Stance) → Ranged n arms → 1 ≤ n → (a : Stance) → T (not (turns m a)) → Own n β arms a → Own n β arms (act m n β arms a)
 act_own begin n β arms range pos a d h = (without_own n β arms a).0 h
@@ -236,16 +193,9 @@ wait_home n β arms i s j W5 e h = by (Home i) (same β s) (waits s j W6) (next 
 wait_home n β arms i s j W6 e h = by (Home i) (same (mygroup (arms j)) s) (next n s j) (waits s j W4) (λ q. next_home n i s j) (λ q r. h r)
 
 step_home : (n : ℕ) (β : Bool) (arms : ℕ → Stance) (i : ℕ) (a : Stance) → arms i ≡ a → Home i a → Home i (step_arm n β arms a)
-step_home n β arms i (idle g) e h = tt
-step_home n β arms i (d1 g) e h = tt
-step_home n β arms i (d2 g) e h = tt
-step_home n β arms i (d3 s g) e h = tt
-step_home n β arms i (d4 s) e h = tt
 step_home n β arms i (d5 s) e h = λ q. tt
 step_home n β arms i (waits s j p) e h = wait_home n β arms i s j p e h
-step_home n β arms i (inside s o) e h = tt
-step_home n β arms i (x1 s) e h = tt
-step_home n β arms i (x2 s) e h = tt
+step_home n β arms i a e h = tt
 
 without_home : (i : ℕ) (a : Stance) → (Home i a → Home i (begin_arm a)) × (Home i a → Home i (admit_arm a)) × (Home i a → Home i (leave_arm a))
 without_home i = without_access (λ a a'. Home i a → Home i a') (λ a h. h) (λ g h. tt) (λ s o h. tt) (λ s h. tt)
@@ -283,12 +233,6 @@ module _ (n : ℕ) (β t : Bool) (arms : ℕ → Stance) (i : ℕ) (e : arms i �
       (λ d h. (h, λ l. l))
 
   turn_other : (k : ℕ) (a : Stance) → arms k ≡ a → Own n β arms a → Own n (not t) (changed arms i (x2 t)) a
-  turn_other k (idle g) q h = tt
-  turn_other k (d1 g) q h = tt
-  turn_other k (d2 g) q h = tt
-  turn_other k (d3 s g) q h = tt
-  turn_other k (d4 s) q h = tt
-  turn_other k (d5 s) q h = tt
   turn_other k (waits s j p) q h = (
     h.0,
     h.1,
@@ -300,18 +244,10 @@ module _ (n : ℕ) (β t : Bool) (arms : ℕ → Stance) (i : ℕ) (e : arms i �
   turn_other k (inside s o) q h = λ k' hk. sides_agree β t s (λ o. free k (subst (λ y. T (has (not t) y)) (sym q) o)) (λ o. h i (subst (λ y. T (has (not s) y)) (sym e) (same_swap t s o)))
   turn_other k (x1 s) q h = λ k' hk. sides_agree β t s (λ o. free k (subst (λ y. T (has (not t) y)) (sym q) o)) (λ o. h i (subst (λ y. T (has (not s) y)) (sym e) (same_swap t s o)))
   turn_other k (x2 s) q h = sides_agree β t s (λ o. free k (subst (λ y. T (has (not t) y)) (sym q) o)) (λ o. h)
+  turn_other k a q h = tt
 
 inv_turn : (g : Machine) → Inv g → (i : ℕ) (a : Stance) → g.arms i ≡ a → T (at_x1 a) → 1 ≤ i → i ≤ g.n →
     Inv (moved_to g (turn_step g.group a) i (step_arm g.n g.group g.arms a))
-inv_turn g inv i (idle x) e x' lo hi = absurd x'
-inv_turn g inv i (d1 x) e x' lo hi = absurd x'
-inv_turn g inv i (d2 x) e x' lo hi = absurd x'
-inv_turn g inv i (d3 s x) e x' lo hi = absurd x'
-inv_turn g inv i (d4 s) e x' lo hi = absurd x'
-inv_turn g inv i (d5 s) e x' lo hi = absurd x'
-inv_turn g inv i (waits s j p) e x' lo hi = absurd x'
-inv_turn g inv i (inside s o) e x' lo hi = absurd x'
-inv_turn g inv i (x2 s) e x' lo hi = absurd x'
 inv_turn g inv i (x1 t) e x' lo hi =
     let free : Free g.group g.arms t = subst (λ y. Own g.n g.group g.arms y) e (inv.own i) in
     record {
@@ -322,6 +258,7 @@ inv_turn g inv i (x1 t) e x' lo hi =
           (λ q. same_refl (not t))
           (λ d. turn_other g.n g.group t g.arms i e free k (g.arms k) refl (inv.own k));
     }
+inv_turn g inv i a e x' lo hi = absurd x'
 
 -- every move keeps the invariant
 pub inv_moved : (g : Machine) → Inv g → (m : Move) (i : ℕ) → 1 ≤ i → i ≤ g.n → Inv (moved g m i)

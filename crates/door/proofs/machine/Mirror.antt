@@ -93,10 +93,7 @@ mirror_with s g mir i lo hi regs len r b a group_now others own = record {
 
 -- tests on bits
 pub bit_same : (x y : Bool) → eqb (bit x) (bit y) ≡ same x y
-bit_same true true = refl
-bit_same true false = refl
-bit_same false true = refl
-bit_same false false = refl
+bit_same b c = grind arith
 
 pub bit_not : (x : Bool) → 1 - bit x ≡ bit (not x)
 bit_not true = refl
@@ -290,37 +287,12 @@ module _ (s : State) (g : Machine) (mir : Mirror s g) (i : ℕ) (lo : 1 ≤ i) (
   -- the calls without an access
   pub begin_mirror : (v : ℕ) (a : Stance) → T (at P.I a) → Shown s i a → Mirror (with_arm i (with_visit (Doorway D1) v (arm_at s i).out (arm_at s i)) s) (moved_to g g.group i (begin_arm a))
   begin_mirror v (idle x) k h = with_none _ (d1 x) (record { stands = refl; sided = h.sided; marked = h.marked; chooses = h.chooses; grouped = h.grouped; flagged = h.flagged })
-  begin_mirror v (d1 x) k h = absurd k
-  begin_mirror v (d2 x) k h = absurd k
-  begin_mirror v (d3 u x) k h = absurd k
-  begin_mirror v (d4 u) k h = absurd k
-  begin_mirror v (d5 u) k h = absurd k
-  begin_mirror v (waits u j p) k h = absurd k
-  begin_mirror v (inside u x) k h = absurd k
-  begin_mirror v (x1 u) k h = absurd k
-  begin_mirror v (x2 u) k h = absurd k
+  begin_mirror v a k h = absurd k
 
   pub admit_mirror : (a : Stance) → T (at P.F a) → Shown s i a → Mirror (with_arm i (with_visit (arm_at s i).position (arm_at s i).visits true (arm_at s i)) s) (moved_to g g.group i (admit_arm a))
   admit_mirror (inside u x) k h = with_none _ (inside u true) (record { stands = h.stands; sided = h.sided; marked = refl; chooses = h.chooses; grouped = h.grouped; flagged = h.flagged })
-  admit_mirror (idle x) k h = absurd k
-  admit_mirror (d1 x) k h = absurd k
-  admit_mirror (d2 x) k h = absurd k
-  admit_mirror (d3 u x) k h = absurd k
-  admit_mirror (d4 u) k h = absurd k
-  admit_mirror (d5 u) k h = absurd k
-  admit_mirror (waits u j p) k h = absurd k
-  admit_mirror (x1 u) k h = absurd k
-  admit_mirror (x2 u) k h = absurd k
+  admit_mirror a k h = absurd k
 
   pub leave_mirror : (a : Stance) → T (out a) → Shown s i a → Mirror (with_arm i (with_visit (Leaving X1) (arm_at s i).visits false (arm_at s i)) s) (moved_to g g.group i (leave_arm a))
   leave_mirror (inside u true) k h = with_none _ (x1 u) (record { stands = refl; sided = h.sided; marked = refl; chooses = h.chooses; grouped = h.grouped; flagged = h.flagged })
-  leave_mirror (inside u false) k h = absurd k
-  leave_mirror (idle x) k h = absurd k
-  leave_mirror (d1 x) k h = absurd k
-  leave_mirror (d2 x) k h = absurd k
-  leave_mirror (d3 u x) k h = absurd k
-  leave_mirror (d4 u) k h = absurd k
-  leave_mirror (d5 u) k h = absurd k
-  leave_mirror (waits u j p) k h = absurd k
-  leave_mirror (x1 u) k h = absurd k
-  leave_mirror (x2 u) k h = absurd k
+  leave_mirror a k h = absurd k

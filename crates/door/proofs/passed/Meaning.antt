@@ -60,32 +60,23 @@ pub record Change (m m' : Meaning) (i : ℕ) : Type 0 where
 
 -- who is inside: if an arm with side t is in F, or in X before its first exit step, then the bit is 1 - t or no arm has side 1 - t
 abbrev pub Own : Bool → (ℕ → Stage) → Stage → Type 0
-Own bit arms resting = Unit {0}
-Own bit arms coming = Unit {0}
-Own bit arms (read t) = Unit {0}
-Own bit arms (waiting t) = Unit {0}
 Own bit arms (inside t) = Free bit arms t
 Own bit arms (leaving t) = Free bit arms t
 Own bit arms (turned t) = T (same bit (not t))
+Own bit arms a = Unit {0}
 
 -- facts last while the bit does, and sides come only from it
 keep : (bit : Bool) (arms arms' : ℕ → Stage) → ((k : ℕ) (t : Bool) → T (has t (arms' k)) → T (has t (arms k)) ⊎ T (same t bit)) → (a : Stage) → Own bit arms a → Own bit arms' a
-keep bit arms arms' seen resting h = tt
-keep bit arms arms' seen coming h = tt
-keep bit arms arms' seen (read t) h = tt
-keep bit arms arms' seen (waiting t) h = tt
 keep bit arms arms' seen (inside t) h = λ k hk. ⊎_elim (h k) (λ y. same_sym (not t) bit y) (seen k (not t) hk)
 keep bit arms arms' seen (leaving t) h = λ k hk. ⊎_elim (h k) (λ y. same_sym (not t) bit y) (seen k (not t) hk)
 keep bit arms arms' seen (turned t) h = h
+keep bit arms arms' seen a h = tt
 
 turn_other : (bit t : Bool) (arms arms' : ℕ → Stage) (i : ℕ) → arms i ≡ leaving t → Free bit arms t → (k : ℕ) (a : Stage) → arms k ≡ a → Own bit arms a → Own (not t) arms' a
-turn_other bit t arms arms' i e free k resting q h = tt
-turn_other bit t arms arms' i e free k coming q h = tt
-turn_other bit t arms arms' i e free k (read s) q h = tt
-turn_other bit t arms arms' i e free k (waiting s) q h = tt
 turn_other bit t arms arms' i e free k (inside s) q h = λ k' hk. sides_agree bit t s (λ o. free k (subst (λ y. T (has (not t) y)) (sym q) o)) (λ o. h i (subst (λ y. T (has (not s) y)) (sym e) (same_swap t s o)))
 turn_other bit t arms arms' i e free k (leaving s) q h = λ k' hk. sides_agree bit t s (λ o. free k (subst (λ y. T (has (not t) y)) (sym q) o)) (λ o. h i (subst (λ y. T (has (not s) y)) (sym e) (same_swap t s o)))
 turn_other bit t arms arms' i e free k (turned s) q h = sides_agree bit t s (λ o. free k (subst (λ y. T (has (not t) y)) (sym q) o)) (λ o. h)
+turn_other bit t arms arms' i e free k a q h = tt
 
 module _ (bit : Bool) (arms arms' : ℕ → Stage) (i : ℕ) (frame : (k : ℕ) → k ≢ i → arms' k ≡ arms k) (own : (k : ℕ) → Own bit arms (arms k)) where
   own_still : (a : Stage) → arms' i ≡ a → ((t : Bool) → T (has t a) → T (has t (arms i)) ⊎ T (same t bit)) → Own bit arms a → (k : ℕ) → Own bit arms' (arms' k)
@@ -181,13 +172,8 @@ module _ (bit : Bool) (arms : ℕ → Stage) (w : ℕ) (s : Bool) (e : arms w �
 -- the arm that waits after a call waited before it, or has ended its doorway
 wait_goes : (bit : Bool) (arms : ℕ → Stage) (a a' : Stage) (b' : Bool) (s : Bool) → Goes bit arms a a' b' → a' ≡ waiting s → T (not (at P.D a && at P.W a')) → a ≡ waiting s
 wait_goes bit arms a a' b' s rests e d = e
-wait_goes bit arms a a' b' s begins e d = absurd (subst (λ y. T (not (at P.W y))) e tt)
-wait_goes bit arms a a' b' s reads e d = absurd (subst (λ y. T (not (at P.W y))) e tt)
 wait_goes bit arms a a' b' s ends e d = absurd d
-wait_goes bit arms a a' b' s (enters f) e d = absurd (subst (λ y. T (not (at P.W y))) e tt)
-wait_goes bit arms a a' b' s leaves e d = absurd (subst (λ y. T (not (at P.W y))) e tt)
-wait_goes bit arms a a' b' s turns e d = absurd (subst (λ y. T (not (at P.W y))) e tt)
-wait_goes bit arms a a' b' s quits e d = absurd (subst (λ y. T (not (at P.W y))) e tt)
+wait_goes bit arms a a' b' s b e d = absurd (subst (λ y. T (not (at P.W y))) e tt)
 
 abbrev pub Inv : Meaning → Type 0
 Inv m = (k : ℕ) → Own m.bit m.arms (m.arms k)

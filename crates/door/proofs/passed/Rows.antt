@@ -63,16 +63,7 @@ tallied_other k P.X q arms j l ne = push_at (same_phase q P.I) j (row_cleared k 
 
 -- an arm that waits after a step waited before it, or was in its doorway
 before_waiting : (n sd v : ℕ) (p : Position) → T (same_phase (phase_of (next_of n sd v p)) P.W) → T (same_phase (phase_of p) P.W) ⊎ T (same_phase (phase_of p) P.D)
-before_waiting n sd v Idle h = absurd h
-before_waiting n sd v (Doorway D1) h = absurd h
-before_waiting n sd v (Doorway D2) h = absurd h
-before_waiting n sd v (Doorway D3) h = absurd h
-before_waiting n sd v (Doorway D4) h = absurd h
-before_waiting n sd v (Doorway D5) h = inr tt
-before_waiting n sd v (Waiting j p) h = inl tt
-before_waiting n sd v Inside h = absurd h
-before_waiting n sd v (Leaving X1) h = absurd h
-before_waiting n sd v (Leaving X2) h = absurd h
+before_waiting n sd v p h = grind arith
 
 waits_counts : (p : Phase) → T (same_phase p P.W) → T (past_doorway p)
 waits_counts p h = grind arith

@@ -24,16 +24,7 @@ meaning g = record { bit = g.group; arms = λ k. stage (g.arms k) }
 
 -- it has the same phase
 pub stage_phase : (a : Stance) → phase (stage a) ≡ phase_of (position a)
-stage_phase (idle g) = refl
-stage_phase (d1 g) = refl
-stage_phase (d2 g) = refl
-stage_phase (d3 s g) = refl
-stage_phase (d4 s) = refl
-stage_phase (d5 s) = refl
-stage_phase (waits s j p) = refl
-stage_phase (inside s o) = refl
-stage_phase (x1 s) = refl
-stage_phase (x2 s) = refl
+stage_phase a = grind arith
 
 stage_side : (a : Stance) (t : Bool) → T (stage_has t (stage a)) → T (has t a)
 stage_side a t h = grind arith
@@ -48,16 +39,12 @@ module _ (n : ℕ) (β : Bool) (arms : ℕ → Stance) (range : Ranged n arms) w
       (wait_out n β (arms j) s j p)
 
   step_goes : (a : Stance) → Own n β arms a → Goes β (λ k. stage (arms k)) (stage a) (stage (step_arm n β arms a)) (turn_step β a)
-  step_goes (idle g) o = rests
-  step_goes (d1 g) o = rests
   step_goes (d2 g) o = reads
-  step_goes (d3 s g) o = rests
-  step_goes (d4 s) o = rests
   step_goes (d5 s) o = ends
   step_goes (waits s j p) o = wait_goes s j p o
-  step_goes (inside s x) o = rests
   step_goes (x1 s) o = turns
   step_goes (x2 s) o = quits
+  step_goes a o = rests
 
   without_goes : (a : Stance) → Goes β (λ k. stage (arms k)) (stage a) (stage (begin_arm a)) β × Goes β (λ k. stage (arms k)) (stage a) (stage (admit_arm a)) β × Goes β (λ k. stage (arms k)) (stage a) (stage (leave_arm a)) β
   without_goes = without_access (λ a a'. Goes β (λ k. stage (arms k)) (stage a) (stage a') β) (λ a. rests) (λ g. begins) (λ s o. rests) (λ s. leaves)

@@ -20,16 +20,12 @@ pub data Critical (g : Machine) (w : ℕ) (s : Bool) (b : ℕ) : Type 0 where
 
 -- tables
 quiet_step : (n : ℕ) (β : Bool) (arms : ℕ → Stance) (a : Stance) → T (not (at P.D a)) → T (not (choosing (step_arm n β arms a)))
-quiet_step n β arms (idle g) d = tt
 quiet_step n β arms (d1 g) d = absurd d
 quiet_step n β arms (d2 g) d = absurd d
 quiet_step n β arms (d3 s g) d = absurd d
 quiet_step n β arms (d4 s) d = absurd d
-quiet_step n β arms (d5 s) d = tt
 quiet_step n β arms (waits s j p) d = outcome (λ r. T (not (choosing r))) n β (arms j) s (λ j p. tt) tt j p
-quiet_step n β arms (inside s o) d = tt
-quiet_step n β arms (x1 s) d = tt
-quiet_step n β arms (x2 s) d = tt
+quiet_step n β arms a d = tt
 
 pub quiet_act : (m : Move) (n : ℕ) (β : Bool) (arms : ℕ → Stance) (a : Stance) → T (not (choosing a)) → T (not (paid m a)) → T (not (choosing (act m n β arms a)))
 quiet_act begin n β arms a c d = grind arith
@@ -38,10 +34,8 @@ quiet_act admit n β arms a c d = grind arith
 quiet_act leave n β arms a c d = grind arith
 
 not_D : (m : Move) (a : Stance) (t : Bool) → T (has t a) → T (not (choosing a)) → T (not (paid m a))
-not_D begin a t h c = tt
 not_D step a t h c = grind arith
-not_D admit a t h c = tt
-not_D leave a t h c = tt
+not_D m a t h c = tt
 
 D_moves : (m : Move) (a : Stance) → T (at P.D a) → T (allowed m a) → T (paid m a)
 D_moves begin a h k = grind arith
@@ -50,10 +44,7 @@ D_moves admit a h k = grind arith
 D_moves leave a h k = grind arith
 
 wait_unpaid : (m : Move) (s : Bool) (j : ℕ) (p : Place) → T (paid m (waits s j p)) → ⊥
-wait_unpaid begin s j p h = h
-wait_unpaid step s j p h = h
-wait_unpaid admit s j p h = h
-wait_unpaid leave s j p h = h
+wait_unpaid m s j p h = grind arith
 
 choosing_awake : (a : Stance) → T (choosing a) → T (not (at P.I a))
 choosing_awake a h = grind arith
@@ -106,17 +97,6 @@ module _ (g : Machine) (inv : Inv g) (w : ℕ) (s : Bool) (j : ℕ) (p : Place) 
 
   -- the group stays s where an arm with the other side stands against it
   foe_holds : (b : ℕ) → T (same g.group s) → T (has (not s) (g.arms b)) → (m : Move) (a : Stance) → Own g.n g.group g.arms a → T (same (turn m g.group a) s)
-  foe_holds b q h begin a o = q
-  foe_holds b q h admit a o = q
-  foe_holds b q h leave a o = q
-  foe_holds b q h step (idle x) o = q
-  foe_holds b q h step (d1 x) o = q
-  foe_holds b q h step (d2 x) o = q
-  foe_holds b q h step (d3 u x) o = q
-  foe_holds b q h step (d4 u) o = q
-  foe_holds b q h step (d5 u) o = q
-  foe_holds b q h step (waits u x y) o = q
-  foe_holds b q h step (inside u x) o = q
   foe_holds b q h step (x1 u) o = ⊎_elim (λ y. absurd (split_up (g.arms b) g.group s u y q h (o b))) (λ d. same_other u s d) (test (same u s))
     where
       split_up : (a : Stance) (β s u : Bool) → T (same u s) → T (same β s) → T (has (not s) a) → (T (has (not u) a) → T (same β (not u))) → ⊥
@@ -126,7 +106,7 @@ module _ (g : Machine) (inv : Inv g) (w : ℕ) (s : Bool) (j : ℕ) (p : Place) 
       split_up a false true u y q h f = q
       split_up a false false true y q h f = y
       split_up a false false false y q h f = f h
-  foe_holds b q h step (x2 u) o = q
+  foe_holds b q h m a o = q
 
   quiet_after : (m : Move) (i : ℕ) → Quiet g.arms → T (not (paid m (g.arms i))) → Quiet (moved g m i).arms
   quiet_after m i quiet d k =

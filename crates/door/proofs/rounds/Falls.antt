@@ -8,19 +8,12 @@ use Rattle.door.proofs.rounds.Potential.{budget, place_rank, rank, rank_of, tota
 
 -- what the invariant says of each arm while one with side s waits
 pub fit_of : (g : Machine) (w : ℕ) (s : Bool) → T (has s (g.arms w)) → (a : Stance) → Own g.n g.group g.arms a → Fit g.group s a
-fit_of g w s h (idle x) o = tt
-fit_of g w s h (d1 x) o = tt
-fit_of g w s h (d2 x) o = tt
-fit_of g w s h (d3 u x) o = tt
-fit_of g w s h (d4 u) o = tt
-fit_of g w s h (d5 u) o = tt
-fit_of g w s h (waits u j p) o = tt
-fit_of g w s h (inside u x) o = tt
 fit_of g w s h (x1 u) o = λ q. o w (move_side (g.arms w) s (not u) q h)
   where
     move_side : (a : Stance) (s u : Bool) → T (same u s) → T (has s a) → T (has u a)
     move_side a s u q h = grind arith
 fit_of g w s h (x2 u) o = o
+fit_of g w s h a o = tt
 
 rank_others : (e e' : Bool) (n : ℕ) (s : Bool) (a a' : Stance) (j : ℕ) (p : Place) (c : ℕ) → (T e' → T e) → (T e' → place_rank (has (not s) a') (flag a') p ≤ place_rank (has (not s) a) (flag a) p + c) →
     rank e' n s a' j p ≤ rank e n s a j p + c

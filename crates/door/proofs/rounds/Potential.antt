@@ -50,16 +50,8 @@ rank true n s a j p = 6 * (n - j) + 5 + place_rank (has (not s) a) (flag a) p
 rank false n s a j p = free_rank p
 
 abbrev pub rank_of : Bool → ℕ → Bool → (ℕ → Stance) → Stance → ℕ
-rank_of e n s arms (idle g) = 0
-rank_of e n s arms (d1 g) = 0
-rank_of e n s arms (d2 g) = 0
-rank_of e n s arms (d3 u g) = 0
-rank_of e n s arms (d4 u) = 0
-rank_of e n s arms (d5 u) = 0
 rank_of e n s arms (waits u j p) = rank e n s (arms j) j p
-rank_of e n s arms (inside u o) = 0
-rank_of e n s arms (x1 u) = 0
-rank_of e n s arms (x2 u) = 0
+rank_of e n s arms a = 0
 
 -- a sum over the arms 1 to n
 abbrev pub total : (ℕ → ℕ) → ℕ → ℕ
@@ -108,16 +100,9 @@ budget_turn s (x2 u) = grind arith
 
 -- what the invariant says of another arm while an arm with side s waits
 abbrev pub Fit : Bool → Bool → Stance → Type 0
-Fit β s (idle g) = Unit {0}
-Fit β s (d1 g) = Unit {0}
-Fit β s (d2 g) = Unit {0}
-Fit β s (d3 u g) = Unit {0}
-Fit β s (d4 u) = Unit {0}
-Fit β s (d5 u) = Unit {0}
-Fit β s (waits u j p) = Unit {0}
-Fit β s (inside u o) = Unit {0}
 Fit β s (x1 u) = T (same (not u) s) → T (same β (not u))
 Fit β s (x2 u) = T (same β (not u))
+Fit β s a = Unit {0}
 
 budget_W : (n : ℕ) (β : Bool) (b : Stance) (s u : Bool) (j : ℕ) (p : Place) → budget (same β s) s (step_waiting n β b u j p) ≤ budget (same β s) s (waits u j p)
 budget_W n β b s u j W1 = grind arith
@@ -151,9 +136,6 @@ budget_critical_W n β b s u j W6 q h c = grind arith
 
 budget_critical : (n : ℕ) (β : Bool) (arms : ℕ → Stance) (s : Bool) (a : Stance) → Fit β s a → T (same β s) → T (has (not s) a) → ((k : ℕ) → T (not (choosing (arms k)))) → T (may_step a) →
     budget (same (turn_step β a) s) s (step_arm n β arms a) + 1 ≤ budget (same β s) s a
-budget_critical n β arms s (idle g) f q h c k = absurd h
-budget_critical n β arms s (d1 g) f q h c k = absurd h
-budget_critical n β arms s (d2 g) f q h c k = absurd h
 budget_critical n β arms s (d3 u g) f q h c k = grind arith
 budget_critical n β arms s (d4 u) f q h c k = grind arith
 budget_critical n β arms s (d5 u) f q h c k = grind arith
@@ -161,6 +143,7 @@ budget_critical n β arms s (waits u j p) f q h c k = budget_critical_W n β (ar
 budget_critical n β arms s (inside u o) f q h c k = absurd k
 budget_critical n β arms s (x1 u) f q h c k = grind arith
 budget_critical n β arms s (x2 u) f q h c k = grind arith
+budget_critical n β arms s a f q h c k = absurd h
 
 budget_begin : (e s : Bool) (a : Stance) → budget e s (begin_arm a) ≤ budget e s a
 budget_begin e s a = grind arith
@@ -178,10 +161,8 @@ budget_leave_critical : (e s : Bool) (a : Stance) → T e → T (has (not s) a) 
 budget_leave_critical e s a q h k = grind arith
 
 abbrev pub paid : Move → Stance → Bool
-paid begin a = false
 paid step a = at P.D a
-paid admit a = false
-paid leave a = false
+paid m a = false
 
 -- the budget of an arm that moves
 pub budget_act : (m : Move) (n : ℕ) (β : Bool) (arms : ℕ → Stance) (s : Bool) (a : Stance) → Fit β s a → budget (same (turn m β a) s) s (act m n β arms a) + cond (paid m a) 3 0 ≤ budget (same β s) s a
@@ -199,7 +180,6 @@ budget_act_critical leave n β arms s a f q h c k = budget_leave_critical (same 
 
 -- the group turns only away from the waiting arm's side
 pub turn_away : (m : Move) (β s : Bool) (a : Stance) → Fit β s a → T (same (turn m β a) s) → T (same β s)
-turn_away begin β s a f h = h
 turn_away step β s a f h = go a f h
   where
     go : (a : Stance) → Fit β s a → T (same (turn_step β a) s) → T (same β s)
@@ -213,8 +193,7 @@ turn_away step β s a f h = go a f h
     go (inside u o) f h = h
     go (x1 u) f h = same_trans β (not u) s (f h) h
     go (x2 u) f h = h
-turn_away admit β s a f h = h
-turn_away leave β s a f h = h
+turn_away m β s a f h = h
 
 pub budget_falls : (e e' s : Bool) (a : Stance) → (T e' → T e) → budget e' s a ≤ budget e s a
 budget_falls true true s a f = omega arith
@@ -269,10 +248,7 @@ place_act leave n β arms s a p f q = let x = place_leave s a p in omega arith
 abbrev pub early : Place → Bool
 early W1 = true
 early W2 = true
-early W3 = false
-early W4 = false
-early W5 = false
-early W6 = false
+early p = false
 
 pub free_late : (p : Place) → T (not (early p)) → 2 ≤ free_rank p
 free_late p h = grind arith

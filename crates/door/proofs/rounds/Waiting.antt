@@ -15,23 +15,13 @@ wait_out n β b s = outcome (λ r. Waiting s r ⊎ (r ≡ inside s false)) n β 
 
 -- it may only step
 pub only_steps : (m : Move) (s : Bool) (j : ℕ) (p : Place) → T (allowed m (waits s j p)) → m ≡ step
-only_steps begin s j p h = absurd h
 only_steps step s j p h = refl
-only_steps admit s j p h = absurd h
-only_steps leave s j p h = absurd h
+only_steps m s j p h = absurd h
 
 -- what its phase says
 pub phase_waits : (a : Stance) → T (at P.W a) → (s : Bool) × Waiting s a
-phase_waits (idle g) h = absurd h
-phase_waits (d1 g) h = absurd h
-phase_waits (d2 g) h = absurd h
-phase_waits (d3 s g) h = absurd h
-phase_waits (d4 s) h = absurd h
-phase_waits (d5 s) h = absurd h
 phase_waits (waits s j p) h = (s, (j, p, refl))
-phase_waits (inside s o) h = absurd h
-phase_waits (x1 s) h = absurd h
-phase_waits (x2 s) h = absurd h
+phase_waits a h = absurd h
 
 pub not_both : (a : Stance) (s : Bool) → T (has s a) → T (has (not s) a) → ⊥
 not_both a s h k = grind arith

@@ -18,29 +18,17 @@ use Rattle.door.proofs.machine.Reached.{Came, stays, goes, came, phase_shown, So
 
 -- the one doorway place that reads the group
 at_d2 : (i sd : ℕ) (a : Stance) → T (at P.D a && of_group (access_of i sd (position a))) → (x : Bool) × (a ≡ d2 x)
-at_d2 i sd (idle g) h = absurd h
-at_d2 i sd (d1 g) h = absurd h
 at_d2 i sd (d2 g) h = (g, refl)
-at_d2 i sd (d3 s g) h = absurd h
-at_d2 i sd (d4 s) h = absurd h
-at_d2 i sd (d5 s) h = absurd h
-at_d2 i sd (waits s j p) h = absurd h
-at_d2 i sd (inside s o) h = absurd h
-at_d2 i sd (x1 s) h = absurd h
-at_d2 i sd (x2 s) h = absurd h
+at_d2 i sd a h = absurd h
 
 -- a side after a move was there, or is read now
 has_step : (n : ℕ) (β : Bool) (arms : ℕ → Stance) (a : Stance) (t : Bool) → T (has t (step_arm n β arms a)) → T (has t a) ⊎ ((x : Bool) × (a ≡ d2 x))
 has_step n β arms (idle g) t h = absurd h
 has_step n β arms (d1 g) t h = absurd h
 has_step n β arms (d2 g) t h = inr (g, refl)
-has_step n β arms (d3 s g) t h = inl h
-has_step n β arms (d4 s) t h = inl h
-has_step n β arms (d5 s) t h = inl h
 has_step n β arms (waits s j p) t h = inl (outcome (λ r. T (has t r) → T (same t s)) n β (arms j) s (λ j p x. x) (λ x. x) j p h)
-has_step n β arms (inside s o) t h = inl h
-has_step n β arms (x1 s) t h = inl h
 has_step n β arms (x2 s) t h = absurd h
+has_step n β arms a t h = inl h
 
 has_without : (t : Bool) (a : Stance) → (T (has t (begin_arm a)) → T (has t a)) × (T (has t (admit_arm a)) → T (has t a)) × (T (has t (leave_arm a)) → T (has t a))
 has_without t = without_access (λ a a'. T (has t a') → T (has t a)) (λ a h. h) (λ g h. h) (λ s o h. h) (λ s h. h)

@@ -23,32 +23,24 @@ use Rattle.door.proofs.way.HasWay.{none_more}
 
 -- how many steps of its doorway an arm has before it
 abbrev ahead : Stance → ℕ
-ahead (idle g) = 0
 ahead (d1 g) = 5
 ahead (d2 g) = 4
 ahead (d3 s g) = 3
 ahead (d4 s) = 2
 ahead (d5 s) = 1
-ahead (waits s j p) = 0
-ahead (inside s o) = 0
-ahead (x1 s) = 0
-ahead (x2 s) = 0
+ahead a = 0
 
 -- a doorway step takes one of them, keeps the side and leaves the group
 abbrev Passes : Bool → Stance → Stance → Bool → Type 0
 Passes β a a' β' = (ahead a' + 1 ≤ ahead a) × ((t : Bool) → T (has t a) → T (has t a')) × (β' ≡ β)
 
 doorway_passes : (n : ℕ) (β : Bool) (arms : ℕ → Stance) (a : Stance) → T (at P.D a) → Passes β a (step_arm n β arms a) (turn_step β a)
-doorway_passes n β arms (idle g) h = absurd h
 doorway_passes n β arms (d1 g) h = (omega arith, (λ t k. absurd k), refl)
 doorway_passes n β arms (d2 g) h = (omega arith, (λ t k. absurd k), refl)
 doorway_passes n β arms (d3 s g) h = (omega arith, (λ t k. k), refl)
 doorway_passes n β arms (d4 s) h = (omega arith, (λ t k. k), refl)
 doorway_passes n β arms (d5 s) h = (omega arith, (λ t k. k), refl)
-doorway_passes n β arms (waits s j p) h = absurd h
-doorway_passes n β arms (inside s o) h = absurd h
-doorway_passes n β arms (x1 s) h = absurd h
-doorway_passes n β arms (x2 s) h = absurd h
+doorway_passes n β arms a h = absurd h
 
 doorway_may : (a : Stance) → T (at P.D a) → T (may_step a)
 doorway_may a h = grind arith
@@ -56,10 +48,8 @@ doorway_may a h = grind arith
 -- a step that the machine allows is accepted
 step_free : (p : Phase) → T (not (same_phase p P.I) && not (same_phase p P.F)) → step_refusal p ≡ None
 step_free P.I h = absurd h
-step_free P.D h = refl
-step_free P.W h = refl
 step_free P.F h = absurd h
-step_free P.X h = refl
+step_free p h = refl
 
 step_accepted : (s : State) (g : Machine) → Mirror s g → (i : ℕ) → 1 ≤ i → i ≤ s.n → T (may_step (g.arms i)) → T (accepted s (Step i))
 step_accepted s g mir i lo hi k =

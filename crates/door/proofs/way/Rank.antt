@@ -22,10 +22,7 @@ abroad_rank q W6 = cond q 1 4
 abbrev home_rank : Place → ℕ
 home_rank W1 = 3
 home_rank W2 = 2
-home_rank W3 = 1
-home_rank W4 = 1
-home_rank W5 = 1
-home_rank W6 = 1
+home_rank p = 1
 
 abbrev here : Bool → Bool → Place → ℕ
 here t q p = cond t (home_rank p) (abroad_rank q p)
@@ -35,16 +32,8 @@ needed true n s w a j p = 6 * (n - j) + 3 + here (eqb j w) (same (mygroup a) s) 
 needed false n s w a j p = free_rank p
 
 abbrev needed_of : Bool → ℕ → Bool → ℕ → (ℕ → Stance) → Stance → ℕ
-needed_of e n s w arms (idle g) = 0
-needed_of e n s w arms (d1 g) = 0
-needed_of e n s w arms (d2 g) = 0
-needed_of e n s w arms (d3 u g) = 0
-needed_of e n s w arms (d4 u) = 0
-needed_of e n s w arms (d5 u) = 0
 needed_of e n s w arms (waits u j p) = needed e n s w (arms j) j p
-needed_of e n s w arms (inside u o) = 0
-needed_of e n s w arms (x1 u) = 0
-needed_of e n s w arms (x2 u) = 0
+needed_of e n s w arms a = 0
 
 here_pos : (t q : Bool) (p : Place) → 1 ≤ here t q p
 here_pos t q p = grind arith
@@ -157,16 +146,9 @@ needed_others false true n s w a a' j p f h = absurd (f tt)
 needed_others false false n s w a a' j p f h = omega arith
 
 mygroup_step : (n : ℕ) (β : Bool) (arms : ℕ → Stance) (s : Bool) (a : Stance) → T (not (has (not s) a)) → T (same (mygroup a) s) → T (same (mygroup (step_arm n β arms a)) s)
-mygroup_step n β arms s (idle g) h q = q
-mygroup_step n β arms s (d1 g) h q = q
-mygroup_step n β arms s (d2 g) h q = q
 mygroup_step n β arms s (d3 u g) h q = grind arith
-mygroup_step n β arms s (d4 u) h q = q
-mygroup_step n β arms s (d5 u) h q = q
 mygroup_step n β arms s (waits u j p) h q = outcome (λ r. T (same (mygroup r) s)) n β (arms j) u (λ j p. q) q j p
-mygroup_step n β arms s (inside u o) h q = q
-mygroup_step n β arms s (x1 u) h q = q
-mygroup_step n β arms s (x2 u) h q = q
+mygroup_step n β arms s a h q = q
 
 mygroup_act : (m : Move) (n : ℕ) (β : Bool) (arms : ℕ → Stance) (s : Bool) (a : Stance) → T (not (has (not s) a)) → T (same (mygroup a) s) → T (same (mygroup (act m n β arms a)) s)
 mygroup_act begin n β arms s a h q = grind arith

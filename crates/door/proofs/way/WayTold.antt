@@ -31,11 +31,7 @@ free_or_barred g inv sd = ⊎_elim
 
 -- sides as bits
 side_same : (v : Bool) (o : Option Bool) → has_side (bit v) (as_bit o) ≡ is_side v o
-side_same true (Some true) = refl
-side_same true (Some false) = refl
-side_same false (Some true) = refl
-side_same false (Some false) = refl
-side_same v None = refl
+side_same b a = grind arith
 
 some_find : (t : ℕ) (arms : List Arm) (n : ℕ) → T (some_side t arms n) → (k : ℕ) × (k < n) × T (has_side t (get_or arms k no_arm).side)
 some_find t arms zero h = absurd h
