@@ -28,20 +28,14 @@ quiet_step n β arms (waits s j p) d = outcome (λ r. T (not (choosing r))) n β
 quiet_step n β arms a d = tt
 
 pub quiet_act : (m : Move) (n : ℕ) (β : Bool) (arms : ℕ → Stance) (a : Stance) → T (not (choosing a)) → T (not (paid m a)) → T (not (choosing (act m n β arms a)))
-quiet_act begin n β arms a c d = grind arith
 quiet_act step n β arms a c d = quiet_step n β arms a d
-quiet_act admit n β arms a c d = grind arith
-quiet_act leave n β arms a c d = grind arith
+quiet_act m n β arms a c d = grind arith
 
 not_D : (m : Move) (a : Stance) (t : Bool) → T (has t a) → T (not (choosing a)) → T (not (paid m a))
-not_D step a t h c = grind arith
-not_D m a t h c = tt
+not_D m a t h c = grind arith
 
 D_moves : (m : Move) (a : Stance) → T (at P.D a) → T (allowed m a) → T (paid m a)
-D_moves begin a h k = grind arith
-D_moves step a h k = h
-D_moves admit a h k = grind arith
-D_moves leave a h k = grind arith
+D_moves m a h k = grind arith
 
 wait_unpaid : (m : Move) (s : Bool) (j : ℕ) (p : Place) → T (paid m (waits s j p)) → ⊥
 wait_unpaid m s j p h = grind arith

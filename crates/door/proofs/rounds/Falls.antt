@@ -17,10 +17,7 @@ fit_of g w s h a o = tt
 
 rank_others : (e e' : Bool) (n : ℕ) (s : Bool) (a a' : Stance) (j : ℕ) (p : Place) (c : ℕ) → (T e' → T e) → (T e' → place_rank (has (not s) a') (flag a') p ≤ place_rank (has (not s) a) (flag a) p + c) →
     rank e' n s a' j p ≤ rank e n s a j p + c
-rank_others true true n s a a' j p c f h = let x = h tt in omega arith
-rank_others true false n s a a' j p c f h = let x = rank_low true n s a' a j p in omega arith
-rank_others false true n s a a' j p c f h = absurd (f tt)
-rank_others false false n s a a' j p c f h = let x = rank_low false n s a' a j p in omega arith
+rank_others e e' n s a a' j p c f h = grind arith
 
 module _ (g : Machine) (w : ℕ) (s : Bool) (j : ℕ) (p : Place) (e : g.arms w ≡ waits s j p) where
   -- another arm's move, by what it does to that arm's budget and to the rank
@@ -54,26 +51,16 @@ free_high : (p : Place) → free_rank p ≤ 5
 free_high p = grind arith
 
 rank_bound : (e : Bool) (n : ℕ) (s : Bool) (a : Stance) (j : ℕ) (p : Place) → 1 ≤ j → j ≤ n → rank e n s a j p ≤ 6 * n + 5
-rank_bound true n s a j p lo hi = let x = place_high (has (not s) a) (flag a) p in omega arith
-rank_bound false n s a j p lo hi = let x = free_high p in omega arith
+rank_bound e n s a j p lo hi = grind arith
 
 -- the rank does not rise where the arm w itself looks no worse
 rank_keeps : (e : Bool) (n : ℕ) (s : Bool) (arms : ℕ → Stance) (w : ℕ) (r : Stance) → ((p : Place) → place_rank (has (not s) r) (flag r) p ≤ place_rank (has (not s) (arms w)) (flag (arms w)) p) →
     (x : Stance) → rank_of e n s (changed arms w r) x ≤ rank_of e n s arms x
-rank_keeps e n s arms w r h (idle y) = omega arith
-rank_keeps e n s arms w r h (d1 y) = omega arith
-rank_keeps e n s arms w r h (d2 y) = omega arith
-rank_keeps e n s arms w r h (d3 u y) = omega arith
-rank_keeps e n s arms w r h (d4 u) = omega arith
-rank_keeps e n s arms w r h (d5 u) = omega arith
-rank_keeps e n s arms w r h (inside u y) = omega arith
-rank_keeps e n s arms w r h (x1 u) = omega arith
-rank_keeps e n s arms w r h (x2 u) = omega arith
 rank_keeps true n s arms w r h (waits u j p) =
     by (λ y. rank true n s y j p ≤ rank true n s (arms j) j p) (eqb j w) r (arms j)
     (λ t. let q : place_rank (has (not s) r) (flag r) p ≤ place_rank (has (not s) (arms j)) (flag (arms j)) p = subst (λ y. place_rank (has (not s) r) (flag r) p ≤ place_rank (has (not s) (arms y)) (flag (arms y)) p) (sym (eqb→eq j w t)) (h p) in omega arith)
     (λ t. omega arith)
-rank_keeps false n s arms w r h (waits u j p) = omega arith
+rank_keeps a n s arms w r h b = omega arith
 
 module _ (g : Machine) (w : ℕ) (s : Bool) (j : ℕ) (p : Place) (e : g.arms w ≡ waits s j p) where
   -- the waiting arm's own step

@@ -37,10 +37,8 @@ choosing_D a h = grind arith
 
 -- an arm in its doorway may only step
 pub doorway_steps : (m : Move) (a : Stance) → T (at P.D a) → T (allowed m a) → m ≡ step
-doorway_steps begin a h k = absurd (let z : ⊥ = grind arith in z)
 doorway_steps step a h k = refl
-doorway_steps admit a h k = absurd (let z : ⊥ = grind arith in z)
-doorway_steps leave a h k = absurd (let z : ⊥ = grind arith in z)
+doorway_steps m a h k = absurd (let z : ⊥ = grind arith in z)
 
 -- a search through the arms
 pub find : (f : ℕ → Bool) (n : ℕ) → ((k : ℕ) × (1 ≤ k) × (k ≤ n) × T (f k)) ⊎ ((k : ℕ) → 1 ≤ k → k ≤ n → T (not (f k)))

@@ -1,5 +1,6 @@
 -- How many own steps a waiting arm still needs while it is free to go and no other arm is in its doorway.
 use Rattle.std.proofs.Common.{◌≡◌, ℕ, ◌+◌, ◌-◌, ◌*◌, ◌≤◌, Bool, true, false, cond, not, T, eqb, ltb, ◌≢◌, sym, ap, ◌∙◌, subst, ⊎_elim, arith, eqb→eq, ltb→lt}
+use Rattle.std.proofs.lemmas.Bool.Decides.{nat_tests}
 use Rattle.door.specs.declared.position.Phase.TheVariants as P
 use Rattle.door.specs.declared.position.Place.{Place}
 use Rattle.door.specs.declared.position.Place.TheVariants.{W1, W2, W3, W4, W5, W6}
@@ -77,15 +78,7 @@ flag_group a s f d h = grind arith
 
 module _ (n : ℕ) (s : Bool) (w : ℕ) (arms : ℕ → Stance) (j : ℕ) (lo : 1 ≤ j) (hi : j ≤ n) (calm : T (not (at P.D (arms j)))) (own : T (eqb j w) → T (same (mygroup (arms j)) s)) where
   step_next : (e : Bool) (p : Place) → T (not (early p)) → needed_of e n s w arms (next n s j) + 1 ≤ needed e n s w (arms j) j p
-  step_next true p l =
-      let x = here_pos (eqb j w) (same (mygroup (arms j)) s) p in
-      let y = here_high (eqb (j + 1) w) (same (mygroup (arms (j + 1))) s) W1 in
-      by (λ r. needed_of true n s w arms r + 1 ≤ needed true n s w (arms j) j p) (ltb j n) (waits s (j + 1) W1) (inside s false)
-      (λ d. let r = ltb→lt j n d in omega arith)
-      (λ d. omega arith)
-  step_next false p l =
-      let x = free_late p l in
-      by (λ r. needed_of false n s w arms r + 1 ≤ needed false n s w (arms j) j p) (ltb j n) (waits s (j + 1) W1) (inside s false) (λ q. omega arith) (λ d. omega arith)
+  step_next e p l = grind (arith, nat_tests)
 
   needed_1 : (e : Bool) → needed_of e n s w arms (cond e (waits s j W2) (inside s false)) + 1 ≤ needed e n s w (arms j) j W1
   needed_1 true = let x = here_1 (eqb j w) (same (mygroup (arms j)) s) in omega arith
@@ -123,38 +116,26 @@ module _ (n : ℕ) (s : Bool) (w : ℕ) (arms : ℕ → Stance) (j : ℕ) (lo : 
   abroad p h f = ⊎_elim (λ q. absurd (clash (far p) f (h (eqb→eq j w q)))) (λ d. d) (test (eqb j w))
 
   needed_own : (β : Bool) (p : Place) → Home w (waits s j p) → (T (same β s) → T (not (has (not s) (arms j)))) → needed_of (same β s) n s w arms (step_waiting n β (arms j) s j p) + 1 ≤ needed (same β s) n s w (arms j) j p
-  needed_own β W1 home h = needed_1 (same β s)
-  needed_own β W2 home h = needed_2 (same β s)
-  needed_own β W3 home h = needed_3 (same β s)
-  needed_own β W4 home h = needed_4 (same β s) (abroad W4 home tt) h
-  needed_own β W5 home h = needed_5 (same β s) (abroad W5 home tt)
-  needed_own β W6 home h = needed_6 (same β s) (abroad W6 home tt)
+  needed_own β W1 home h = grind (arith, nat_tests)
+  needed_own β W2 home h = grind (arith, nat_tests)
+  needed_own β W3 home h = grind (arith, nat_tests)
+  needed_own β W4 home h = grind (arith, nat_tests)
+  needed_own β W5 home h = grind (arith, nat_tests)
+  needed_own β W6 home h = grind (arith, nat_tests)
 
 needed_bound : (e : Bool) (n : ℕ) (s : Bool) (w : ℕ) (a : Stance) (j : ℕ) (p : Place) → 1 ≤ w → w ≤ n → 1 ≤ j → j ≤ n → needed e n s w a j p ≤ 8 * n
-needed_bound true n s w a j p wlo whi lo hi = go (eqb j w) (λ q. eqb→eq j w q) (λ d. ne_test j w d)
-  where
-    go : (t : Bool) → (T t → j ≡ w) → (T (not t) → j ≡ w → ⊥) → 6 * (n - j) + 3 + here t (same (mygroup a) s) p ≤ 8 * n
-    go true f h = let x = here_home (same (mygroup a) s) p in omega arith
-    go false f h = let x = here_high false (same (mygroup a) s) p in let ne : j ≢ w = h tt in omega arith
-needed_bound false n s w a j p wlo whi lo hi = let x = free_pos p in omega arith
+needed_bound e n s w a j p wlo whi lo hi = grind (arith, nat_tests)
 
 -- another arm's move
 needed_others : (e e' : Bool) (n : ℕ) (s : Bool) (w : ℕ) (a a' : Stance) (j : ℕ) (p : Place) → (T e' → T e) → (T e → T (same (mygroup a) s) → T (same (mygroup a') s)) → needed e' n s w a' j p ≤ needed e n s w a j p
-needed_others true true n s w a a' j p f h = let x = here_group (eqb j w) (same (mygroup a) s) (same (mygroup a') s) p (h tt) in omega arith
-needed_others true false n s w a a' j p f h = let x = here_free (eqb j w) (same (mygroup a) s) p in omega arith
-needed_others false true n s w a a' j p f h = absurd (f tt)
-needed_others false false n s w a a' j p f h = omega arith
+needed_others e e' n s w a a' j p f h = grind arith
 
 mygroup_step : (n : ℕ) (β : Bool) (arms : ℕ → Stance) (s : Bool) (a : Stance) → T (not (has (not s) a)) → T (same (mygroup a) s) → T (same (mygroup (step_arm n β arms a)) s)
-mygroup_step n β arms s (d3 u g) h q = grind arith
 mygroup_step n β arms s (waits u j p) h q = outcome (λ r. T (same (mygroup r) s)) n β (arms j) u (λ j p. q) q j p
-mygroup_step n β arms s a h q = q
+mygroup_step n β arms s a h q = grind arith
 
 mygroup_act : (m : Move) (n : ℕ) (β : Bool) (arms : ℕ → Stance) (s : Bool) (a : Stance) → T (not (has (not s) a)) → T (same (mygroup a) s) → T (same (mygroup (act m n β arms a)) s)
-mygroup_act begin n β arms s a h q = grind arith
-mygroup_act step n β arms s a h q = mygroup_step n β arms s a h q
-mygroup_act admit n β arms s a h q = grind arith
-mygroup_act leave n β arms s a h q = grind arith
+mygroup_act m n β arms s a h q = grind arith
 
 free_none : (β : Bool) (arms : ℕ → Stance) (s : Bool) → Free β arms s → T (same β s) → (k : ℕ) → T (not (has (not s) (arms k)))
 free_none β arms s free q k = none_of (has (not s) (arms k)) (λ h. opposite β s q (same_sym β (not s) (free k h)))
@@ -164,17 +145,7 @@ here_keeps true s r a p = omega arith
 here_keeps false s r a p = omega arith
 
 needed_keeps : (e : Bool) (n : ℕ) (s : Bool) (w : ℕ) (arms : ℕ → Stance) (r x : Stance) → needed_of e n s w (changed arms w r) x ≤ needed_of e n s w arms x
-needed_keeps e n s w arms r (idle y) = omega arith
-needed_keeps e n s w arms r (d1 y) = omega arith
-needed_keeps e n s w arms r (d2 y) = omega arith
-needed_keeps e n s w arms r (d3 u y) = omega arith
-needed_keeps e n s w arms r (d4 u) = omega arith
-needed_keeps e n s w arms r (d5 u) = omega arith
-needed_keeps true n s w arms r (waits u j p) = let x = here_keeps (eqb j w) s r (arms j) p in omega arith
-needed_keeps false n s w arms r (waits u j p) = omega arith
-needed_keeps e n s w arms r (inside u y) = omega arith
-needed_keeps e n s w arms r (x1 u) = omega arith
-needed_keeps e n s w arms r (x2 u) = omega arith
+needed_keeps e n s w arms r x = grind arith
 
 -- for an arm of the machine
 abbrev pub needs : Machine → Bool → ℕ → ℕ
