@@ -107,10 +107,6 @@ module _ (n : ℕ) (β : Bool) (arms : ℕ → Stance) (range : Ranged n arms) w
   step_own pos (x1 s) d h = absurd d
   step_own pos a d h = tt
 
-without_own : (n : ℕ) (β : Bool) (arms : ℕ → Stance) (a : Stance)
-    → (Own n β arms a → Own n β arms (begin_arm a)) × (Own n β arms a → Own n β arms (admit_arm a)) × (Own n β arms a → Own n β arms (leave_arm a))
-without_own n β arms = without_access (λ a a'. Own n β arms a → Own n β arms a') (λ a h. h) (λ g h. tt) (λ s o h. h) (λ s h. h)
-
 -- what a move can do to its arm, as the others see it: a side it has it had, and it chooses only if it did; or the side is the group
 abbrev pub Seen : Bool → Stance → Stance → Type 0
 Seen β a a' = (t : Bool) → T (has t a') → (T (has t a) × (T (choosing a') → T (choosing a))) ⊎ T (same t β)
@@ -128,10 +124,8 @@ seen_step n β arms (x2 s) = λ t h. absurd h
 seen_step n β arms a = λ t h. inl (h, λ x. x)
 
 pub seen_act : (m : Move) (n : ℕ) (β : Bool) (arms : ℕ → Stance) (a : Stance) → Seen β a (act m n β arms a)
-seen_act begin n β arms a t h = inl (grind arith)
 seen_act step n β arms a t h = seen_step n β arms a t h
-seen_act admit n β arms a t h = inl (grind arith)
-seen_act leave n β arms a t h = inl (grind arith)
+seen_act m n β arms a t h = inl (grind arith)
 
 -- the others' facts last while the group does
 keep : (n : ℕ) (β : Bool) (arms arms' : ℕ → Stance) → ((k : ℕ) → Seen β (arms k) (arms' k)) → (a : Stance) → Own n β arms a → Own n β arms' a
@@ -147,26 +141,14 @@ turns step a = at_x1 a
 turns m a = false
 
 pub turn_same : (m : Move) (β : Bool) (a : Stance) → T (not (turns m a)) → turn m β a ≡ β
-turn_same step β a d = go a d
-  where
-    go : (a : Stance) → T (not (at_x1 a)) → turn_step β a ≡ β
-    go (idle g) d = refl
-    go (d1 g) d = refl
-    go (d2 g) d = refl
-    go (d3 s g) d = refl
-    go (d4 s) d = refl
-    go (d5 s) d = refl
-    go (waits s j p) d = refl
-    go (inside s o) d = refl
-    go (x1 s) d = absurd d
-    go (x2 s) d = refl
-turn_same m β a d = refl
+turn_same m β a d = grind arith
 
 pub act_own : (m : Move) (n : ℕ) (β : Bool) (arms : ℕ → Stance) → Ranged n arms → 1 ≤ n → (a : Stance) → T (not (turns m a)) → Own n β arms a → Own n β arms (act m n β arms a)
-act_own begin n β arms range pos a d h = (without_own n β arms a).0 h
+act_own begin n β arms range pos (idle g) d h = tt
 act_own step n β arms range pos a d h = step_own n β arms range pos a d h
-act_own admit n β arms range pos a d h = (without_own n β arms a).1 h
-act_own leave n β arms range pos a d h = (without_own n β arms a).2 h
+act_own admit n β arms range pos (inside s o) d h = h
+act_own leave n β arms range pos (inside s true) d h = h
+act_own m n β arms range pos a d h = h
 
 pub changed_seen : (β : Bool) (arms : ℕ → Stance) (i : ℕ) (a : Stance) → Seen β (arms i) a → (k : ℕ) → Seen β (arms k) (changed arms i a k)
 changed_seen β arms i a h k =
@@ -197,14 +179,15 @@ step_home n β arms i (d5 s) e h = λ q. tt
 step_home n β arms i (waits s j p) e h = wait_home n β arms i s j p e h
 step_home n β arms i a e h = tt
 
-without_home : (i : ℕ) (a : Stance) → (Home i a → Home i (begin_arm a)) × (Home i a → Home i (admit_arm a)) × (Home i a → Home i (leave_arm a))
-without_home i = without_access (λ a a'. Home i a → Home i a') (λ a h. h) (λ g h. tt) (λ s o h. tt) (λ s h. tt)
-
 act_home : (m : Move) (n : ℕ) (β : Bool) (arms : ℕ → Stance) (i : ℕ) → Home i (arms i) → Home i (act m n β arms (arms i))
-act_home begin n β arms i h = (without_home i (arms i)).0 h
-act_home step n β arms i h = step_home n β arms i (arms i) refl h
-act_home admit n β arms i h = (without_home i (arms i)).1 h
-act_home leave n β arms i h = (without_home i (arms i)).2 h
+act_home m n β arms i h = go m (arms i) refl h
+  where
+    go : (m : Move) (a : Stance) → arms i ≡ a → Home i a → Home i (act m n β arms a)
+    go begin (idle g) e h = tt
+    go step a e h = step_home n β arms i a e h
+    go admit (inside s o) e h = tt
+    go leave (inside s true) e h = tt
+    go m a e h = h
 
 changed_home : (arms : ℕ → Stance) (i : ℕ) (a : Stance) → Home i a → ((k : ℕ) → Home k (arms k)) → (k : ℕ) → Home k (changed arms i a k)
 changed_home arms i a h old k = by (Home k) (eqb k i) a (arms k) (λ q. subst (λ y. Home y a) (sym (eqb→eq k i q)) h) (λ q. old k)

@@ -1,5 +1,6 @@
 -- The machine that a gate mirrors: what the registers say of an arm is part of the arm's own state.
-use Rattle.std.proofs.Common.{◌≡◌, ℕ, ◌+◌, Bool, true, false, cond, not, ◌&&◌, eqb, ltb, ◌≢◌, Some, None, Option}
+use Rattle.std.proofs.Common.{◌≡◌, ℕ, ◌+◌, Bool, true, false, cond, not, ◌&&◌, eqb, ltb, ◌≢◌, Some, None, Option, arith}
+use Rattle.std.proofs.lemmas.Bool.Decides.{nat_tests}
 use lib.Dec.{eqb_refl}
 use Rattle.door.specs.Positions.{phase_of}
 use Rattle.door.specs.Tallies.{same_phase}
@@ -197,10 +198,10 @@ abbrev pub changed : (ℕ → Stance) → ℕ → Stance → ℕ → Stance
 changed f i a k = cond (eqb k i) a (f k)
 
 pub changed_same : (f : ℕ → Stance) (i : ℕ) (a : Stance) → changed f i a i ≡ a
-changed_same f i a = cond_on (eqb i i) a (f i) (eqb_refl i)
+changed_same f i a = grind (arith, nat_tests)
 
 pub changed_other : (f : ℕ → Stance) (i : ℕ) (a : Stance) (k : ℕ) → k ≢ i → changed f i a k ≡ f k
-changed_other f i a k ne = cond_off (eqb k i) a (f k) (test_ne k i ne)
+changed_other f i a k ne = grind (arith, nat_tests)
 
 -- how many arms, the group, the arms (from 1)
 pub record Machine : Type 0 where

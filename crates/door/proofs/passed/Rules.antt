@@ -1,5 +1,5 @@
 -- The machine shows the three rules: every move of it is a change of its meaning.
-use Rattle.std.proofs.Common.{◌≡◌, ℕ, Bool, not, T, sym, refl, ap, subst, ⊎_elim, arith}
+use Rattle.std.proofs.Common.{◌≡◌, ℕ, Bool, true, not, T, sym, refl, ap, subst, ⊎_elim, arith}
 use Rattle.door.specs.Positions.{phase_of}
 use Rattle.door.specs.declared.position.Place.{Place}
 use Rattle.door.proofs.machine.Machine.{Stance, idle, d1, d2, d3, d4, d5, waits, inside, x1, x2, position, has, step_waiting, step_arm, begin_arm, admit_arm, leave_arm, turn_step, Move, begin, step, admit, leave, act, turn, without_access, changed_same, changed_other, Machine, moved}
@@ -46,14 +46,12 @@ module _ (n : ℕ) (β : Bool) (arms : ℕ → Stance) (range : Ranged n arms) w
   step_goes (x2 s) o = quits
   step_goes a o = rests
 
-  without_goes : (a : Stance) → Goes β (λ k. stage (arms k)) (stage a) (stage (begin_arm a)) β × Goes β (λ k. stage (arms k)) (stage a) (stage (admit_arm a)) β × Goes β (λ k. stage (arms k)) (stage a) (stage (leave_arm a)) β
-  without_goes = without_access (λ a a'. Goes β (λ k. stage (arms k)) (stage a) (stage a') β) (λ a. rests) (λ g. begins) (λ s o. rests) (λ s. leaves)
-
   act_goes : (m : Move) (a : Stance) → Own n β arms a → Goes β (λ k. stage (arms k)) (stage a) (stage (act m n β arms a)) (turn m β a)
-  act_goes begin a o = (without_goes a).0
+  act_goes begin (idle g) o = begins
   act_goes step a o = step_goes a o
-  act_goes admit a o = (without_goes a).1
-  act_goes leave a o = (without_goes a).2
+  act_goes admit (inside s x) o = rests
+  act_goes leave (inside s true) o = leaves
+  act_goes m a o = rests
 
 pub move_change : (g : Machine) → Inv g → (m : Move) (i : ℕ) → Change (meaning g) (meaning (moved g m i)) i
 move_change g inv m i = record {

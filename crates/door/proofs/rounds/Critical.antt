@@ -7,7 +7,7 @@ use Rattle.door.proofs.Bools.{same, same_other, opposite, test, clash, none_of, 
 use Rattle.door.proofs.machine.Machine.{Stance, idle, d1, d2, d3, d4, d5, waits, inside, x1, x2, at, has, choosing, outcome, step_arm, turn_step, Move, begin, step, admit, leave, act, turn, allowed, changed_other, Machine, moved_to, moved}
 use Rattle.door.proofs.machine.Invariant.{Own, Inv, seen_act, changed_seen}
 use Rattle.door.proofs.rounds.Waiting.{Waiting, Entry, only_steps, not_both, D_awake, has_awake, choosing_D, find, has_own, index_in, move_out}
-use Rattle.door.proofs.rounds.Potential.{Fit, budget_act, budget_act_critical, paid, turn_away, place_act, potential}
+use Rattle.door.proofs.rounds.Potential.{budget, Fit, budget_act, budget_act_critical, paid, turn_away, place_act, potential}
 use Rattle.door.proofs.rounds.Falls.{fit_of, potential_other, potential_own}
 
 abbrev Quiet : (ℕ → Stance) → Type 0
@@ -50,38 +50,25 @@ module _ (g : Machine) (inv : Inv g) (w : ℕ) (s : Bool) (j : ℕ) (p : Place) 
   fit : (i : ℕ) → Fit g.group s (g.arms i)
   fit i = fit_of g w s (has_own g inv w s j p e) (g.arms i) (inv.own i)
 
+  -- another arm moves
+  other_falls : (m : Move) (i : ℕ) → i ≢ w → 1 ≤ i → i ≤ g.n → (c : ℕ) → budget (same (turn m g.group (g.arms i)) s) s (act m g.n g.group g.arms (g.arms i)) + c ≤ budget (same g.group s) s (g.arms i)
+      → potential s (moved g m i) w + c ≤ potential s g w + cond (paid m (g.arms i)) 2 0
+  other_falls m i ne lo hi c low =
+      potential_other g w s j p e i ne lo hi (turn m g.group (g.arms i)) (act m g.n g.group g.arms (g.arms i)) c (cond (paid m (g.arms i)) 2 0)
+      (turn_away m g.group s (g.arms i) (fit i)) low
+      (λ q. place_act m g.n g.group g.arms s (g.arms i) p (fit i) (turn_away m g.group s (g.arms i) (fit i) q))
+
   other_paid : (m : Move) (i : ℕ) → i ≢ w → 1 ≤ i → i ≤ g.n → T (paid m (g.arms i)) → potential s (moved g m i) w + 1 ≤ potential s g w
-  other_paid m i ne lo hi d =
-      let x = potential_other g w s j p e i ne lo hi (turn m g.group (g.arms i)) (act m g.n g.group g.arms (g.arms i)) (cond (paid m (g.arms i)) 3 0) (cond (paid m (g.arms i)) 2 0)
-      (turn_away m g.group s (g.arms i) (fit i)) (budget_act m g.n g.group g.arms s (g.arms i) (fit i))
-      (λ q. place_act m g.n g.group g.arms s (g.arms i) p (fit i) (turn_away m g.group s (g.arms i) (fit i) q)) in
-      pay (paid m (g.arms i)) d _ _ x
-    where
-      pay : (b : Bool) → T b → (x y : ℕ) → x + cond b 3 0 ≤ y + cond b 2 0 → x + 1 ≤ y
-      pay true h x y l = omega arith
-      pay false h x y l = absurd h
+  other_paid m i ne lo hi d = let x = other_falls m i ne lo hi _ (budget_act m g.n g.group g.arms s (g.arms i) (fit i)) in grind arith
 
   other_le : (m : Move) (i : ℕ) → i ≢ w → 1 ≤ i → i ≤ g.n → potential s (moved g m i) w ≤ potential s g w
-  other_le m i ne lo hi =
-      let x = potential_other g w s j p e i ne lo hi (turn m g.group (g.arms i)) (act m g.n g.group g.arms (g.arms i)) (cond (paid m (g.arms i)) 3 0) (cond (paid m (g.arms i)) 2 0)
-      (turn_away m g.group s (g.arms i) (fit i)) (budget_act m g.n g.group g.arms s (g.arms i) (fit i))
-      (λ q. place_act m g.n g.group g.arms s (g.arms i) p (fit i) (turn_away m g.group s (g.arms i) (fit i) q)) in
-      pay (paid m (g.arms i)) _ _ x
-    where
-      pay : (b : Bool) (x y : ℕ) → x + cond b 3 0 ≤ y + cond b 2 0 → x ≤ y
-      pay true x y l = omega arith
-      pay false x y l = omega arith
+  other_le m i ne lo hi = let x = other_falls m i ne lo hi _ (budget_act m g.n g.group g.arms s (g.arms i) (fit i)) in grind arith
 
   foe_falls : (m : Move) (i : ℕ) → i ≢ w → 1 ≤ i → i ≤ g.n → T (same g.group s) → T (has (not s) (g.arms i)) → Quiet g.arms → T (allowed m (g.arms i)) → potential s (moved g m i) w + 1 ≤ potential s g w
   foe_falls m i ne lo hi q h quiet k =
-      let x = potential_other g w s j p e i ne lo hi (turn m g.group (g.arms i)) (act m g.n g.group g.arms (g.arms i)) 1 (cond (paid m (g.arms i)) 2 0)
-      (turn_away m g.group s (g.arms i) (fit i)) (budget_act_critical m g.n g.group g.arms s (g.arms i) (fit i) q h quiet k)
-      (λ q. place_act m g.n g.group g.arms s (g.arms i) p (fit i) (turn_away m g.group s (g.arms i) (fit i) q)) in
-      pay (paid m (g.arms i)) (not_D m (g.arms i) (not s) h (quiet i)) _ _ x
-    where
-      pay : (b : Bool) → T (not b) → (x y : ℕ) → x + 1 ≤ y + cond b 2 0 → x + 1 ≤ y
-      pay true h x y l = absurd h
-      pay false h x y l = omega arith
+      let x = other_falls m i ne lo hi 1 (budget_act_critical m g.n g.group g.arms s (g.arms i) (fit i) q h quiet k) in
+      let y = not_D m (g.arms i) (not s) h (quiet i) in
+      grind arith
 
   -- the waiting arm steps
   own_potential : (k : Bool) → (T k → Quiet g.arms) → (T k → T (same g.group s) → (b : ℕ) → T (has (not s) (g.arms b)) → ⊥) → potential s (moved g step w) w + cond k 1 0 ≤ potential s g w
@@ -94,12 +81,7 @@ module _ (g : Machine) (inv : Inv g) (w : ℕ) (s : Bool) (j : ℕ) (p : Place) 
   foe_holds b q h step (x1 u) o = ⊎_elim (λ y. absurd (split_up (g.arms b) g.group s u y q h (o b))) (λ d. same_other u s d) (test (same u s))
     where
       split_up : (a : Stance) (β s u : Bool) → T (same u s) → T (same β s) → T (has (not s) a) → (T (has (not u) a) → T (same β (not u))) → ⊥
-      split_up a true true true y q h f = f h
-      split_up a true true false y q h f = y
-      split_up a true false u y q h f = q
-      split_up a false true u y q h f = q
-      split_up a false false true y q h f = y
-      split_up a false false false y q h f = f h
+      split_up a β s u y q h f = grind arith
   foe_holds b q h m a o = q
 
   quiet_after : (m : Move) (i : ℕ) → Quiet g.arms → T (not (paid m (g.arms i))) → Quiet (moved g m i).arms

@@ -4,7 +4,7 @@ use Rattle.door.specs.declared.position.Place.{Place}
 use Rattle.door.proofs.Bools.{same, by, test_ne}
 use Rattle.door.proofs.machine.Machine.{Stance, idle, d1, d2, d3, d4, d5, waits, inside, x1, x2, has, choosing, flag, step_waiting, changed, changed_same, changed_other, Machine, moved_to}
 use Rattle.door.proofs.machine.Invariant.{Own}
-use Rattle.door.proofs.rounds.Potential.{budget, place_rank, rank, rank_of, total, total_le, total_drop, total_bound, budget_bound, Fit, budget_falls, rank_low, keeps_look, wait_rank, mask, potential, mask_on, mask_off, mask_le, free_rank}
+use Rattle.door.proofs.rounds.Potential.{budget, place_rank, rank, rank_of, total, total_le, total_drop, total_bound, budget_bound, Fit, budget_falls, keeps_look, wait_rank, mask, potential, mask_on, mask_off, mask_le, free_rank}
 
 -- what the invariant says of each arm while one with side s waits
 pub fit_of : (g : Machine) (w : ℕ) (s : Bool) → T (has s (g.arms w)) → (a : Stance) → Own g.n g.group g.arms a → Fit g.group s a
@@ -43,12 +43,6 @@ module _ (g : Machine) (w : ℕ) (s : Bool) (j : ℕ) (p : Place) (e : g.arms w 
       lo hi
       (mask_off (eqb i w) _ _ c (test_ne i w ne) (subst (λ y. budget E' s y + c ≤ budget E s (g.arms i)) (sym (changed_same g.arms i a)) low)) in
       omega arith
-
-place_high : (o f : Bool) (p : Place) → place_rank o f p ≤ 6
-place_high o f p = grind arith
-
-free_high : (p : Place) → free_rank p ≤ 5
-free_high p = grind arith
 
 rank_bound : (e : Bool) (n : ℕ) (s : Bool) (a : Stance) (j : ℕ) (p : Place) → 1 ≤ j → j ≤ n → rank e n s a j p ≤ 6 * n + 5
 rank_bound e n s a j p lo hi = grind arith

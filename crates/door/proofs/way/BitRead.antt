@@ -30,14 +30,9 @@ has_step n β arms (waits s j p) t h = inl (outcome (λ r. T (has t r) → T (sa
 has_step n β arms (x2 s) t h = absurd h
 has_step n β arms a t h = inl h
 
-has_without : (t : Bool) (a : Stance) → (T (has t (begin_arm a)) → T (has t a)) × (T (has t (admit_arm a)) → T (has t a)) × (T (has t (leave_arm a)) → T (has t a))
-has_without t = without_access (λ a a'. T (has t a') → T (has t a)) (λ a h. h) (λ g h. h) (λ s o h. h) (λ s h. h)
-
 has_act : (m : Move) (n : ℕ) (β : Bool) (arms : ℕ → Stance) (a : Stance) (t : Bool) → T (has t (act m n β arms a)) → T (has t a) ⊎ (T (is_step m) × ((x : Bool) × (a ≡ d2 x)))
-has_act begin n β arms a t h = inl ((has_without t a).0 h)
 has_act step n β arms a t h = ⊎_elim (λ x. inl x) (λ x. inr (tt, x)) (has_step n β arms a t h)
-has_act admit n β arms a t h = inl ((has_without t a).1 h)
-has_act leave n β arms a t h = inl ((has_without t a).2 h)
+has_act m n β arms a t h = inl (grind arith)
 
 module _ (w n : ℕ) (wlo : 1 ≤ w) (whi : w ≤ n) where
   abbrev Reads : Machine → ℕ → Type 0
