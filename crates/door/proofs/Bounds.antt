@@ -153,10 +153,7 @@ cleared_bit : (k : ℕ) (regs : List ℕ) → get_or (cleared (suc k) regs) grou
 cleared_bit k regs = omega arith
 
 made_bit : (n : ℕ) (regs : List ℕ) → 1 ≤ n → get_or (made_regs n regs) group 0 ≤ 1
-made_bit n regs h =
-    let some : eqb n 0 ≡ false = grind (arith, nat_tests) in
-    let e : room n ≡ suc (3 * n) = omega arith in
-    subst (λ rs. get_or rs group 0 ≤ 1) (sym (cond-false (eqb n 0) regs (cleared (room n) regs) some ∙ ap (λ k. cleared k regs) e)) (cleared_bit (3 * n) regs)
+made_bit n regs h = grind (arith, nat_tests)
 
 pub made_bounded : (high number wanted : ℕ) (regs : List ℕ) → Bounded (made high number wanted regs)
 made_bounded high number wanted regs =

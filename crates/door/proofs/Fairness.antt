@@ -88,8 +88,7 @@ module _ (high number wanted : ℕ) (regs : List ℕ) (past : List Call) where
         (test (not (same g.group t)))
       where
         none_twice : (b : Bool) → T (not (not b)) → T b
-        none_twice true h = tt
-        none_twice false h = absurd h
+        none_twice b h = grind arith
 
     alike : (u w : ℕ) → 1 ≤ u → u ≤ n → T (is_in P.W now u) → 1 ≤ w → w ≤ n → T (is_in P.W now w)
         → (RightOfWay now u ↔ RightOfWay now w) ↔ (bit_read u start past ≡ bit_read w start past)
@@ -152,12 +151,10 @@ law s high number wanted regs past e = subst (Fair (made high number wanted regs
 
 -- the answer of way
 way_accepted : (p : Phase) → T (same_phase p P.W) → way_refusal p ≡ None
-way_accepted P.W h = refl
-way_accepted p h = absurd h
+way_accepted p h = grind arith
 
 yes_is : (b : Bool) → (◌≡◌ {A = Result Bool Refusal} (Ok b) (Ok true)) ↔ T b
-yes_is true = ((λ e. tt), (λ h. refl))
-yes_is false = ((λ e. absurd (let z : ◌≡◌ {A = ℕ} 0 1 = cc in omega arith)), (λ h. absurd h))
+yes_is b = grind arith
 
 -- what way answers of a waiting arm, of a state that calls lead to: whether it goes inside is decided, so any origin will do
 decided : (w : ℕ) (s : State) (cs : List Call) → GoesInside w s cs ⊎ ¬ (GoesInside w s cs)

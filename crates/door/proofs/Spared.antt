@@ -21,8 +21,7 @@ spared high regs a q h = grind (arith, get_or-set_other)
 
 -- the same records, refused or not
 unless_arms : (r : Option Refusal) (x y x' y' : State) → x.arms ≡ x'.arms → y.arms ≡ y'.arms → (unless r x y).arms ≡ (unless r x' y').arms
-unless_arms None x y x' y' new old = new
-unless_arms (Some r) x y x' y' new old = old
+unless_arms r x y x' y' new old = grind arith
 
 -- the records after a step that read v
 abbrev arms_having_read : State → ℕ → ℕ → List Arm

@@ -177,22 +177,6 @@ allowed step a = may_step a
 allowed admit a = at P.F a && not (out a)
 allowed leave a = out a
 
--- what holds of an arm left alone and of the three moves without an access holds of begin, admit and leave
-pub without_access : (P : Stance → Stance → Type 0) → ((a : Stance) → P a a) → ((g : Bool) → P (idle g) (d1 g))
-    → ((s o : Bool) → P (inside s o) (inside s true)) → ((s : Bool) → P (inside s true) (x1 s))
-    → (a : Stance) → P a (begin_arm a) × P a (admit_arm a) × P a (leave_arm a)
-without_access P h begins admits leaves (idle g) = (begins g, h (idle g), h (idle g))
-without_access P h begins admits leaves (d1 g) = (h (d1 g), h (d1 g), h (d1 g))
-without_access P h begins admits leaves (d2 g) = (h (d2 g), h (d2 g), h (d2 g))
-without_access P h begins admits leaves (d3 s g) = (h (d3 s g), h (d3 s g), h (d3 s g))
-without_access P h begins admits leaves (d4 s) = (h (d4 s), h (d4 s), h (d4 s))
-without_access P h begins admits leaves (d5 s) = (h (d5 s), h (d5 s), h (d5 s))
-without_access P h begins admits leaves (waits s j p) = (h (waits s j p), h (waits s j p), h (waits s j p))
-without_access P h begins admits leaves (inside s true) = (h (inside s true), admits s true, leaves s)
-without_access P h begins admits leaves (inside s false) = (h (inside s false), admits s false, h (inside s false))
-without_access P h begins admits leaves (x1 s) = (h (x1 s), h (x1 s), h (x1 s))
-without_access P h begins admits leaves (x2 s) = (h (x2 s), h (x2 s), h (x2 s))
-
 -- a function changed at one place
 abbrev pub changed : (ℕ → Stance) → ℕ → Stance → ℕ → Stance
 changed f i a k = cond (eqb k i) a (f k)

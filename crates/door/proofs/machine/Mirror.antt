@@ -1,5 +1,6 @@
 -- A gate's state mirrors the machine: its registers and records say what the machine's arms are.
 use Rattle.std.proofs.Common.{◌≡◌, ℕ, zero, suc, ◌+◌, ◌-◌, ◌*◌, ◌<◌, ◌≤◌, Bool, true, false, cond, not, ◌&&◌, T, eqb, ltb, leb, ◌≢◌, List, [], ◌∷◌, length, get_or, set, Some, None, Option, sym, refl, ap, ◌∙◌, subst, ⊎_elim, arith}
+use Rattle.std.proofs.lemmas.Bool.Decides.{nat_tests}
 use Rattle.std.proofs.lemmas.Bool.{cases_eq, cases_lt, cond_both, and_from, cond-true, lt-ltb, le-leb}
 use Rattle.std.proofs.lemmas.List.{length-set, get_or-set_same, get_or-set_other, set_past}
 use Rattle.bank.specs.Registers.{written, can_hold}
@@ -54,14 +55,7 @@ pub record Mirror (s : State) (g : Machine) : Type 0 where
   pub shows : (i : ℕ) → 1 ≤ i → i ≤ s.n → Shown s i (g.arms i)
 
 shows_eq : {r r' : Arm} {c c' m m' f f' : ℕ} {a a' : Stance} → r' ≡ r → c' ≡ c → m' ≡ m → f' ≡ f → a' ≡ a → Shows r c m f a → Shows r' c' m' f' a'
-shows_eq er ec em ef ea h = record {
-  stands = ap (λ x. x.position) er ∙ (h.stands ∙ sym (ap position ea));
-  sided = ap (λ x. x.side) er ∙ (h.sided ∙ sym (ap (λ x. as_bit (side x)) ea));
-  marked = ap (λ x. x.out) er ∙ (h.marked ∙ sym (ap out ea));
-  chooses = ec ∙ (h.chooses ∙ sym (ap (λ x. bit (choosing x)) ea));
-  grouped = em ∙ (h.grouped ∙ sym (ap (λ x. bit (mygroup x)) ea));
-  flagged = ef ∙ (h.flagged ∙ sym (ap (λ x. bit (flag x)) ea));
-}
+shows_eq er ec em ef ea h = record { stands = cc; sided = cc; marked = cc; chooses = cc; grouped = cc; flagged = cc }
 
 -- the registers of the arms other than i are as they were
 abbrev Others : State → ℕ → List ℕ → Type 0
@@ -96,8 +90,7 @@ pub bit_same : (x y : Bool) → eqb (bit x) (bit y) ≡ same x y
 bit_same b c = grind arith
 
 pub bit_not : (x : Bool) → 1 - bit x ≡ bit (not x)
-bit_not true = refl
-bit_not false = refl
+bit_not x = grind arith
 
 push : {A B : Type 0} (f : A → B) (b : Bool) (x y : A) → cond b (f x) (f y) ≡ f (cond b x y)
 push f true x y = refl
@@ -125,12 +118,7 @@ by_one true p q a b ep eq = eq
 by_one false p q a b ep eq = ep
 
 next_waiting : (n : ℕ) (β : Bool) (b : Stance) (u : Bool) (j : ℕ) (p : Place) → next_place n (bit u) (bit (sees β b p)) j p ≡ position (step_waiting n β b u j p)
-next_waiting n β b u j W1 = by_two β u _ _ (waits u j W2) (inside u false) refl refl
-next_waiting n β b u j W2 = by_one (choosing b) _ _ (waits u j W3) (waits u j W2) refl refl
-next_waiting n β b u j W3 = by_two (mygroup b) u _ _ (next n u j) (waits u j W4) (next_position n u j) refl
-next_waiting n β b u j W4 = by_one (flag b) _ _ (next n u j) (waits u j W5) (next_position n u j) refl
-next_waiting n β b u j W5 = by_two β u _ _ (waits u j W6) (next n u j) refl (next_position n u j)
-next_waiting n β b u j W6 = by_two (mygroup b) u _ _ (next n u j) (waits u j W4) (next_position n u j) refl
+next_waiting n β b u j p = grind arith
 
 -- what else a waiting arm's step leaves
 abbrev Rest : Bool → Stance → Type 0
@@ -141,33 +129,23 @@ rest_waiting n β b u = outcome (Rest u) n β b u (λ j p. (refl, refl, refl, re
 
 -- a write to a register that the bank has, of a value that it holds
 length_written : (high : ℕ) (regs : List ℕ) (q v : ℕ) → length (written high regs q v) ≡ length regs
-length_written high regs q v = cond_both (can_hold high regs q v) (set regs q v) regs (λ rs. length rs ≡ length regs) (λ _. length-set regs q v) (λ _. refl)
+length_written high regs q v = grind (arith, length-set {A = ℕ})
 
 written_same : (high : ℕ) (regs : List ℕ) (q v : ℕ) → q < length regs → v ≤ high → get_or (written high regs q v) q 0 ≡ v
-written_same high regs q v l h =
-    ap (λ rs. get_or rs q 0) (cond-true (can_hold high regs q v) (set regs q v) regs (and_from (ltb q (length regs)) (leb v high) (lt-ltb q (length regs) l) (le-leb v high h)))
-    ∙ get_or-set_same regs q v 0 l
+written_same high regs q v l h = grind (arith, nat_tests, get_or-set_same)
 
 written_other : (high : ℕ) (regs : List ℕ) (q v z : ℕ) → z ≢ q → get_or (written high regs q v) z 0 ≡ get_or regs z 0
-written_other high regs q v z ne =
-    cond_both (can_hold high regs q v) (set regs q v) regs (λ rs. get_or rs z 0 ≡ get_or regs z 0) (λ _. get_or-set_other regs q z v 0 ne) (λ _. refl)
+written_other high regs q v z ne = grind (arith, get_or-set_other)
 
 -- the tally leaves what the machine sees
 abbrev pub Seen : Arm → Arm → Type 0
 Seen a b = (a.position ≡ b.position) × (a.side ≡ b.side) × (a.out ≡ b.out)
 
 row_seen : (r : List ℕ) (t : List Bool) (k : ℕ) (arms : List Arm) (j : ℕ) → Seen (get_or (set arms k (with_row r t (get_or arms k no_arm))) j no_arm) (get_or arms j no_arm)
-row_seen r t k arms j = ⊎_elim
-    (λ q. subst (λ i. Seen (get_or (set arms k (with_row r t (get_or arms k no_arm))) i no_arm) (get_or arms i no_arm)) (sym q) (⊎_elim
-    (λ l. subst (λ a. Seen a (get_or arms k no_arm)) (sym (get_or-set_same arms k (with_row r t (get_or arms k no_arm)) no_arm l)) (refl, refl, refl))
-    (λ l. subst (λ rs. Seen (get_or rs k no_arm) (get_or arms k no_arm)) (sym (set_past arms k (with_row r t (get_or arms k no_arm)) l)) (refl, refl, refl))
-    (cases_lt k (length arms))))
-    (λ ne. subst (λ a. Seen a (get_or arms j no_arm)) (sym (get_or-set_other arms k j _ no_arm ne)) (refl, refl, refl))
-    (cases_eq j k)
+row_seen r t k arms j = grind (arith, get_or-set_same, get_or-set_other, set_past)
 
 counted_seen : (b k : ℕ) (a : Arm) → Seen (counted b k a) a
-counted_seen b k a =
-    cond_both (not (eqb k b) && past_doorway (phase_of a.position)) (with_row _ a.notes a) a (λ r. Seen r a) (λ _. (refl, refl, refl)) (λ _. (refl, refl, refl))
+counted_seen b k a = grind arith
 
 each_seen : (f : ℕ → Arm → Arm) → ((k : ℕ) (a : Arm) → Seen (f k a) a) → (k : ℕ) (arms : List Arm) (j : ℕ) → Seen (get_or (each f k arms) j no_arm) (get_or arms j no_arm)
 each_seen f h k [] j = (refl, refl, refl)
@@ -213,8 +191,7 @@ stepped_at s i p o =
     with_table (regs_after s.high s.regs x) (set s.arms (i - 1) (record_moved (next_of s.n (side_of o) v p) (side_after v p o) (arm_at s i))) s
 
 bit_low : (u : Bool) → bit u ≤ 1
-bit_low true = omega arith
-bit_low false = omega arith
+bit_low u = grind arith
 
 module _ (s : State) (g : Machine) (mir : Mirror s g) (i : ℕ) (lo : 1 ≤ i) (hi : i ≤ s.n) where
   set_same : (q v : ℕ) → q ≤ 3 * i → v ≤ 1 → get_or (written s.high s.regs q v) q 0 ≡ v

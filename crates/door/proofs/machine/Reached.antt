@@ -1,5 +1,6 @@
 -- Every call is a move of the machine or nothing that it sees; so every history of a gate mirrors a run of the machine.
 use Rattle.std.proofs.Common.{◌≡◌, ℕ, zero, suc, ◌+◌, ◌-◌, ◌<◌, ◌≤◌, Bool, false, not, ◌&&◌, T, eqb, leb, List, [], ◌∷◌, ◌++◌, length, get_or, take, drop, replicate, Some, None, Option, sym, refl, ap, ◌∙◌, subst, arith}
+use Rattle.std.proofs.lemmas.Bool.Decides.{nat_tests}
 use lib.Dec.{eqb_refl}
 use Rattle.std.proofs.lemmas.Bool.{cond-false, ne_eqb, le-leb}
 use Rattle.std.proofs.lemmas.List.{get_or-replicate, length-replicate, get_or_append_left, take_more}
@@ -31,10 +32,7 @@ pub data Came (g : Machine) (t : State) (mv st : ℕ → Bool) : Type 0 where
       → ((b : ℕ) → mv b ≡ (not (is_begin m) && eqb i b)) → ((b : ℕ) → st b ≡ (is_step m && eqb i b)) → Came g t mv st
 
 pub arm_is : (s : State) (i : ℕ) → 1 ≤ i → i ≤ s.n → T (is_arm s i)
-arm_is s i lo hi = T_and (leb 1 i) (leb i s.n) (T_le 1 i lo) (T_le i s.n hi)
-  where
-    T_le : (a b : ℕ) → a ≤ b → T (leb a b)
-    T_le a b l = T_true (leb a b) (le-leb a b l)
+arm_is s i lo hi = grind (arith, nat_tests)
 
 module _ (s : State) (g : Machine) (mir : Mirror s g) (inv : Inv g) where
   by_refusal : (c : Call) → (refusal_of s c ≡ None → Came g (done s c) (λ b. move_of b c) (λ b. step_of b c)) → Came g (after s c) (λ b. moves b s c) (λ b. steps b s c)
@@ -116,8 +114,7 @@ run_sound s n h (c ∷ cs) = run_sound (after s c) n (after_sound s n h c) cs
 
 -- no call alters how many arms there are
 unless_n : (r : Option Refusal) (x y : State) → x.n ≡ y.n → (unless r x y).n ≡ y.n
-unless_n None x y e = e
-unless_n (Some r) x y e = refl
+unless_n r x y e = grind arith
 
 after_n : (s : State) (c : Call) → (after s c).n ≡ s.n
 after_n s (Begin i) = unless_n (refusal_of s (Begin i)) (done s (Begin i)) s refl
@@ -150,8 +147,7 @@ start_inv n = record { home = λ k. tt; awake = λ k h. absurd h; range = λ k t
 
 -- a gate with arms has a bank that holds a bit, and 0 in all their registers
 some_high : (high len wanted : ℕ) → 1 ≤ arms_for high len wanted → 1 ≤ high
-some_high zero len wanted h = absurd (omega arith)
-some_high (suc k) len wanted h = omega arith
+some_high high len wanted h = grind (arith, nat_tests)
 
 module _ (high number wanted : ℕ) (regs : List ℕ) (some : 1 ≤ arms_for high (length regs) wanted) where
   abbrev made_n : ℕ

@@ -120,14 +120,8 @@ left_high e s a = grind arith
 left_idle : (e s : Bool) (a : Stage) → T (at P.I a) → left e s a ≤ 1
 left_idle e s a h = grind arith
 
-left_turn : (s : Bool) (a : Stage) → left false s a ≤ left true s a
-left_turn s a = grind arith
-
 left_falls : (e e' s : Bool) (a : Stage) → (T e' → T e) → left e' s a ≤ left e s a
-left_falls true true s a f = omega arith
-left_falls true false s a f = left_turn s a
-left_falls false true s a f = absurd (f tt)
-left_falls false false s a f = omega arith
+left_falls e e' s a f = grind arith
 
 module _ (bit : Bool) (arms : ℕ → Stage) (w : ℕ) (s : Bool) (e : arms w ≡ waiting s) where
   w_side : (u : Bool) → T (same u s) → T (has u (arms w))
@@ -189,19 +183,17 @@ abbrev pub goes_inside : ℕ → Meaning → Meaning → Bool
 goes_inside b m m' = at P.W (m.arms b) && at P.F (m'.arms b)
 
 two_phases : (a : Stage) → (T (at P.D a && at P.W a) → ⊥) × (T (at P.W a && at P.F a) → ⊥)
-two_phases a = ((λ t. grind arith), (λ t. grind arith))
+two_phases a = grind arith
 
 doorway_awake : (a a' : Stage) → T (at P.D a && at P.W a') → T (at P.I a) → ⊥
 doorway_awake a a' t d = grind arith
 
 -- a choice that both sides make
 choose_le : (t : Bool) (z x y : ℕ) → (T (not t) → x ≤ y) → cond t z x ≤ cond t z y
-choose_le true z x y h = omega arith
-choose_le false z x y h = h tt
+choose_le t z x y h = grind arith
 
 choose_less : (t : Bool) (z x y : ℕ) → (T t → ⊥) → (T (not t) → x + 1 ≤ y) → cond t z x + 1 ≤ cond t z y
-choose_less true z x y f h = absurd (f tt)
-choose_less false z x y f h = h tt
+choose_less t z x y f h = grind arith
 
 -- the count since w ended its doorway, by whether it ends now and whether the other goes inside now: rem is what may still come
 count : (W W' : Bool → Type 0) (rem rem' : Bool → ℕ) (E N d o : Bool) (k : ℕ) →
@@ -210,11 +202,7 @@ count : (W W' : Bool → Type 0) (rem rem' : Bool → ℕ) (E N d o : Bool) (k :
     (T E → T d → (s : Bool) → rem' s ≤ 1) →
     (T (not E) → (s : Bool) → W' s → W s × (rem' s ≤ rem s) × (T N → rem' s + 1 ≤ rem s)) →
     (s : Bool) → W' s → (cond E 0 (cond N (k + 1) k) + rem' s ≤ 2) × (T (cond E d o) → cond E 0 (cond N (k + 1) k) + rem' s ≤ 1)
-count W W' rem rem' true N d o k L high hE hF s w = ((let x = high s in omega arith), λ t. let x = hE tt t s in omega arith)
-count W W' rem rem' false true d o k L high hE hF s w =
-    let x = hF tt s w in let y = L s x.0 in let z = x.2 tt in ((let y' = y.0 in omega arith), λ t. let y' = y.1 t in omega arith)
-count W W' rem rem' false false d o k L high hE hF s w =
-    let x = hF tt s w in let y = L s x.0 in let z = x.1 in ((let y' = y.0 in omega arith), λ t. let y' = y.1 t in omega arith)
+count W W' rem rem' E N d o k L high hE hF s w = grind (arith, L s, high s, hE, hF)
 
 -- how often b can still get past w that waits with side s; w itself counts as used up
 abbrev pub remaining : ℕ → ℕ → Meaning → Bool → ℕ

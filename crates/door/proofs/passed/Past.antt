@@ -19,9 +19,7 @@ use Rattle.door.proofs.passed.Meaning.{at as StageAt, Inv as RulesHold, inv_chan
 use Rattle.door.proofs.passed.Rules.{stage, stage_phase, meaning, move_change}
 
 absorb : (x y : Bool) → (T y → T x) → (x && y) ≡ y
-absorb true y h = refl
-absorb false true h = absurd (h tt)
-absorb false false h = refl
+absorb x y h = grind arith
 
 -- an arm's phase in the machine's meaning
 phase_meant : (p : Phase) (a : Stance) → StageAt p (stage a) ≡ at p a

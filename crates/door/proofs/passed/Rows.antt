@@ -1,5 +1,6 @@
 -- A waiting arm's row and notes are what its history counts.
 use Rattle.std.proofs.Common.{◌≡◌, ℕ, ◌+◌, ◌-◌, ◌<◌, ◌≤◌, min, Bool, true, false, cond, not, ◌&&◌, T, eqb, ◌≢◌, ◌⊎◌, List, [], ◌∷◌, map, length, get_or, set, replicate, Some, None, Option, sym, refl, ap, ◌∙◌, subst, inl, inr, ⊎_elim, arith, eqb→eq}
+use Rattle.std.proofs.lemmas.Bool.Decides.{nat_tests}
 use lib.Dec.{eqb_refl}
 use Rattle.std.proofs.lemmas.Bool.{cases_eq}
 use Rattle.std.proofs.lemmas.List.{length-replicate, get_or-replicate, length-set, get_or-set_same, get_or-set_other, get_or-map}
@@ -33,33 +34,20 @@ own_row k p q arms =
     (cond (same_phase p P.X && same_phase q P.I) (with_row (replicate arm_limit 0) (replicate arm_limit false) (get_or arms k no_arm)) (get_or arms k no_arm))
 
 push_at : (t : Bool) (j : ℕ) (xs ys : List Arm) → get_or (cond t xs ys) j no_arm ≡ cond t (get_or xs j no_arm) (get_or ys j no_arm)
-push_at true j xs ys = refl
-push_at false j xs ys = refl
+push_at t j xs ys = grind arith
 
 counted_own : (k : ℕ) (a : Arm) → counted k k a ≡ a
-counted_own k a = cond_off (not (eqb k k) && past_doorway (phase_of a.position)) _ a (none_of _ (λ t. clash (eqb k k) (eqb_refl k) (and_T (not (eqb k k)) _ t).0))
+counted_own k a = grind (arith, nat_tests)
 
 tallied_own : (k : ℕ) (p q : Phase) (arms : List Arm) → k < length arms → get_or (tallied k p q arms) k no_arm ≡ own_row k p q arms
-tallied_own k P.I q arms l = refl
-tallied_own k P.D q arms l = push_at (same_phase q P.W) k (row_started k arms) arms ∙ ap (λ x. cond (same_phase q P.W) x (get_or arms k no_arm)) (get_or-set_same arms k _ no_arm l)
-tallied_own k P.W q arms l = push_at (same_phase q P.F) k (each (counted k) 0 arms) arms
-    ∙ by (λ x. x ≡ get_or arms k no_arm) (same_phase q P.F) (get_or (each (counted k) 0 arms) k no_arm) (get_or arms k no_arm)
-    (λ _. getD_each (counted k) 0 arms k l ∙ (ap (λ i. counted k i (get_or arms k no_arm)) (omega arith) ∙ counted_own k (get_or arms k no_arm))) (λ _. refl)
-tallied_own k P.F q arms l = refl
-tallied_own k P.X q arms l = push_at (same_phase q P.I) k (row_cleared k arms) arms ∙ ap (λ x. cond (same_phase q P.I) x (get_or arms k no_arm)) (get_or-set_same arms k _ no_arm l)
+tallied_own k p q arms l = grind (arith, get_or-set_same, getD_each, counted_own)
 
 either : (t : Bool) (a : Arm) → cond t a a ≡ a
-either true a = refl
-either false a = refl
+either t a = grind arith
 
 tallied_other : (k : ℕ) (p q : Phase) (arms : List Arm) (j : ℕ) → j < length arms → j ≢ k
     → get_or (tallied k p q arms) j no_arm ≡ cond (same_phase p P.W && same_phase q P.F) (counted k j (get_or arms j no_arm)) (get_or arms j no_arm)
-tallied_other k P.I q arms j l ne = refl
-tallied_other k P.D q arms j l ne = push_at (same_phase q P.W) j (row_started k arms) arms ∙ (ap (λ x. cond (same_phase q P.W) x (get_or arms j no_arm)) (get_or-set_other arms k j _ no_arm ne) ∙ either (same_phase q P.W) (get_or arms j no_arm))
-tallied_other k P.W q arms j l ne = push_at (same_phase q P.F) j (each (counted k) 0 arms) arms
-    ∙ ap (λ x. cond (same_phase q P.F) x (get_or arms j no_arm)) (getD_each (counted k) 0 arms j l ∙ ap (λ i. counted k i (get_or arms j no_arm)) (omega arith))
-tallied_other k P.F q arms j l ne = refl
-tallied_other k P.X q arms j l ne = push_at (same_phase q P.I) j (row_cleared k arms) arms ∙ (ap (λ x. cond (same_phase q P.I) x (get_or arms j no_arm)) (get_or-set_other arms k j _ no_arm ne) ∙ either (same_phase q P.I) (get_or arms j no_arm))
+tallied_other k p q arms j l ne = grind (arith, get_or-set_other, getD_each)
 
 -- an arm that waits after a step waited before it, or was in its doorway
 before_waiting : (n sd v : ℕ) (p : Position) → T (same_phase (phase_of (next_of n sd v p)) P.W) → T (same_phase (phase_of p) P.W) ⊎ T (same_phase (phase_of p) P.D)
@@ -72,10 +60,10 @@ W_not_F : (p : Phase) → T (same_phase p P.W) → T (same_phase p P.F) → ⊥
 W_not_F p h k = grind arith
 
 W_not_I : (p : Phase) → T (same_phase p P.W) → same_phase p P.I ≡ false
-W_not_I p h = is_false (same_phase p P.I) (none_of (same_phase p P.I) (λ k. let z : ⊥ = grind arith in z))
+W_not_I p h = grind arith
 
 D_not_I : (p : Phase) → T (same_phase p P.D) → same_phase p P.I ≡ false
-D_not_I p h = is_false (same_phase p P.I) (none_of (same_phase p P.I) (λ k. let z : ⊥ = grind arith in z))
+D_not_I p h = grind arith
 
 capped : (x : ℕ) → x ≤ 2 → min (x + 1) tally_limit ≡ x + 1
 capped x h = omega arith

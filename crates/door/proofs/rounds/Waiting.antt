@@ -15,8 +15,7 @@ wait_out n β b s = outcome (λ r. Waiting s r ⊎ (r ≡ inside s false)) n β 
 
 -- it may only step
 pub only_steps : (m : Move) (s : Bool) (j : ℕ) (p : Place) → T (allowed m (waits s j p)) → m ≡ step
-only_steps step s j p h = refl
-only_steps m s j p h = absurd h
+only_steps m s j p h = grind arith
 
 -- what its phase says
 pub phase_waits : (a : Stance) → T (at P.W a) → (s : Bool) × Waiting s a
@@ -37,8 +36,7 @@ choosing_D a h = grind arith
 
 -- an arm in its doorway may only step
 pub doorway_steps : (m : Move) (a : Stance) → T (at P.D a) → T (allowed m a) → m ≡ step
-doorway_steps step a h k = refl
-doorway_steps m a h k = absurd (let z : ⊥ = grind arith in z)
+doorway_steps m a h k = grind arith
 
 -- a search through the arms
 pub find : (f : ℕ → Bool) (n : ℕ) → ((k : ℕ) × (1 ≤ k) × (k ≤ n) × T (f k)) ⊎ ((k : ℕ) → 1 ≤ k → k ≤ n → T (not (f k)))

@@ -10,7 +10,7 @@ use Rattle.door.specs.History.{is_in, steps, moves, of_group, reads_group, lates
 use Rattle.door.specs.declared.call.Call.{Call}
 use Rattle.door.specs.declared.position.Phase.TheVariants as P
 use Rattle.door.proofs.Bools.{same, same_refl, same_path, clash, and_T, T_and, by}
-use Rattle.door.proofs.machine.Machine.{Stance, idle, d1, d2, d3, d4, d5, waits, inside, x1, x2, position, at, side, has, outcome, step_arm, Move, begin, step, admit, leave, is_step, act, allowed, without_access, begin_arm, admit_arm, leave_arm, changed_same, changed_other, Machine, moved}
+use Rattle.door.proofs.machine.Machine.{Stance, idle, d1, d2, d3, d4, d5, waits, inside, x1, x2, position, at, side, has, outcome, step_arm, Move, begin, step, admit, leave, is_step, act, allowed, begin_arm, admit_arm, leave_arm, changed_same, changed_other, Machine, moved}
 use Rattle.door.proofs.machine.Invariant.{inv_moved}
 use Rattle.door.proofs.rounds.Waiting.{doorway_steps, phase_waits}
 use Rattle.door.proofs.machine.Mirror.{bit, as_bit, register}

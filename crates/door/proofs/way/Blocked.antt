@@ -35,21 +35,14 @@ abbrev Passes : Bool → Stance → Stance → Bool → Type 0
 Passes β a a' β' = (ahead a' + 1 ≤ ahead a) × ((t : Bool) → T (has t a) → T (has t a')) × (β' ≡ β)
 
 doorway_passes : (n : ℕ) (β : Bool) (arms : ℕ → Stance) (a : Stance) → T (at P.D a) → Passes β a (step_arm n β arms a) (turn_step β a)
-doorway_passes n β arms (d1 g) h = (omega arith, (λ t k. absurd k), refl)
-doorway_passes n β arms (d2 g) h = (omega arith, (λ t k. absurd k), refl)
-doorway_passes n β arms (d3 s g) h = (omega arith, (λ t k. k), refl)
-doorway_passes n β arms (d4 s) h = (omega arith, (λ t k. k), refl)
-doorway_passes n β arms (d5 s) h = (omega arith, (λ t k. k), refl)
-doorway_passes n β arms a h = absurd h
+doorway_passes n β arms a h = grind arith
 
 doorway_may : (a : Stance) → T (at P.D a) → T (may_step a)
 doorway_may a h = grind arith
 
 -- a step that the machine allows is accepted
 step_free : (p : Phase) → T (not (same_phase p P.I) && not (same_phase p P.F)) → step_refusal p ≡ None
-step_free P.I h = absurd h
-step_free P.F h = absurd h
-step_free p h = refl
+step_free p h = grind arith
 
 step_accepted : (s : State) (g : Machine) → Mirror s g → (i : ℕ) → 1 ≤ i → i ≤ s.n → T (may_step (g.arms i)) → T (accepted s (Step i))
 step_accepted s g mir i lo hi k =
@@ -71,8 +64,7 @@ step_mirrored s g mir inv i lo hi k only = go (came s g mir inv (Step i))
         subst (λ y. Mirror (after s (Step i)) (moved g step y)) q (subst (λ y. Mirror (after s (Step i)) (moved g y l)) r mir')
 
 one_step : (b : Bool) → T b → ◌≡◌ {A = ℕ} (cond b 1 0) 1
-one_step true h = refl
-one_step false h = absurd h
+one_step b h = grind arith
 
 module _ (u : ℕ) (sd : Bool) (n : ℕ) (ulo : 1 ≤ u) (uhi : u ≤ n) (k : ℕ) where
   -- u waits, the group is its side, and arm k has the other side

@@ -19,7 +19,7 @@ one_more : (b : Bool) → cond b 1 0 ≤ 1
 one_more b = grind arith
 
 pub none_more : (b : Bool) → b ≡ false → ◌≡◌ {A = ℕ} (cond b 1 0) 0
-none_more b e = ap (λ x. cond x 1 0) e
+none_more b e = grind arith
 
 module _ (w : ℕ) (sd : Bool) (n : ℕ) (wlo : 1 ≤ w) (whi : w ≤ n) where
   goes_on : (cs : List Call) (s : State) (g : Machine) → Mirror s g → Inv g → g.n ≡ n → Waiting sd (g.arms w) → Free g.group g.arms sd
