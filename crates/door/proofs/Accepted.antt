@@ -9,7 +9,7 @@ use Rattle.door.specs.declared.position.Phase.{Phase}
 use Rattle.door.specs.declared.position.Phase.TheVariants as P
 use Rattle.door.specs.declared.refusal.Refusal.{Refusal}
 use Rattle.door.specs.declared.refusal.Refusal.TheVariants as R
-use Rattle.door.proofs.Bools.{and_T, T_true}
+use Rattle.door.proofs.Bools.{and_T}
 
 -- whether a call was accepted or refused
 pub unless_both : {X : Type 0} (r : Option Refusal) (new old : X) (P : X → Type 0) → (r ≡ None → P new) → P old → P (unless r new old)

@@ -71,14 +71,8 @@ by P false x y f g = g tt
 pub cond_on : {A : Type 0} (b : Bool) (x y : A) → T b → cond b x y ≡ x
 cond_on b x y h = grind arith
 
-pub cond_off : {A : Type 0} (b : Bool) (x y : A) → T (not b) → cond b x y ≡ y
-cond_off b x y h = grind arith
-
 pub is_true : (b : Bool) → T b → b ≡ true
 is_true b h = grind arith
-
-pub T_true : (b : Bool) → b ≡ true → T b
-T_true b e = grind arith
 
 pub is_false : (b : Bool) → T (not b) → b ≡ false
 is_false b h = grind arith

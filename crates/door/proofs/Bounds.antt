@@ -149,9 +149,6 @@ after_bounded s (tally w b) h = unless_both (refusal_of s (tally w b)) s s Bound
 after_bounded s (way i) h = unless_both (refusal_of s (way i)) s s Bounded (λ _. h) h
 
 -- a gate just made
-cleared_bit : (k : ℕ) (regs : List ℕ) → get_or (cleared (suc k) regs) group 0 ≤ 1
-cleared_bit k regs = omega arith
-
 made_bit : (n : ℕ) (regs : List ℕ) → 1 ≤ n → get_or (made_regs n regs) group 0 ≤ 1
 made_bit n regs h = grind (arith, nat_tests)
 

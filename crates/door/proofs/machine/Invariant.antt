@@ -1,5 +1,6 @@
 -- The invariant of the machine: who is inside, and what a waiting arm has passed.
 use Rattle.std.proofs.Common.{◌≡◌, ℕ, ◌+◌, ◌≤◌, Bool, true, false, not, T, eqb, ltb, ◌≢◌, ◌⊎◌, sym, refl, subst, inl, inr, ⊎_elim, arith, eqb→eq, ltb→lt, nltb→le}
+use Rattle.std.proofs.lemmas.Bool.Decides.{nat_tests}
 use Rattle.std.proofs.lemmas.Bool.{cases_eq}
 use Rattle.door.specs.declared.position.Phase.TheVariants as P
 use Rattle.door.specs.declared.position.Place.{Place}
@@ -124,8 +125,7 @@ seen_step n β arms (x2 s) = λ t h. absurd h
 seen_step n β arms a = λ t h. inl (h, λ x. x)
 
 pub seen_act : (m : Move) (n : ℕ) (β : Bool) (arms : ℕ → Stance) (a : Stance) → Seen β a (act m n β arms a)
-seen_act step n β arms a t h = seen_step n β arms a t h
-seen_act m n β arms a t h = inl (grind arith)
+seen_act m n β arms a t h = grind arith
 
 -- the others' facts last while the group does
 keep : (n : ℕ) (β : Bool) (arms arms' : ℕ → Stance) → ((k : ℕ) → Seen β (arms k) (arms' k)) → (a : Stance) → Own n β arms a → Own n β arms' a
@@ -155,24 +155,17 @@ changed_seen β arms i a h k =
     by (Seen β (arms k)) (eqb k i) a (arms k) (λ e. subst (λ x. Seen β (arms x) a) (sym (eqb→eq k i e)) h) (λ d. seen_same β (arms k))
 
 pub changed_range : (n : ℕ) (arms : ℕ → Stance) (i : ℕ) (a : Stance) → 1 ≤ i → i ≤ n → Ranged n arms → Ranged n (changed arms i a)
-changed_range n arms i a lo hi range k t =
-    by (λ x. T (has t x) → (1 ≤ k) × (k ≤ n)) (eqb k i) a (arms k) (λ e h. let r = eqb→eq k i e in omega arith) (λ d h. range k t h)
+changed_range n arms i a lo hi range k t h = let r = range k t in grind (arith, nat_tests)
 
 pub changed_awake : (n : ℕ) (arms : ℕ → Stance) (i : ℕ) (a : Stance) → 1 ≤ i → i ≤ n → Awake n arms → Awake n (changed arms i a)
-changed_awake n arms i a lo hi range k =
-    by (λ x. T (not (at P.I x)) → (1 ≤ k) × (k ≤ n)) (eqb k i) a (arms k) (λ e h. let r = eqb→eq k i e in omega arith) (λ d h. range k h)
+changed_awake n arms i a lo hi awake k h = let r = awake k in grind (arith, nat_tests)
 
 next_home : (n k : ℕ) (s : Bool) (j : ℕ) → Home k (next n s j)
 next_home n k s j = by (Home k) (ltb j n) (waits s (j + 1) W1) (inside s false) (λ q r. tt) (λ q. tt)
 
 wait_home : (n : ℕ) (β : Bool) (arms : ℕ → Stance) (i : ℕ) (s : Bool) (j : ℕ) (p : Place) → arms i ≡ waits s j p → Home i (waits s j p) → Home i (step_waiting n β (arms j) s j p)
-wait_home n β arms i s j W1 e h = by (Home i) (same β s) (waits s j W2) (inside s false) (λ q r. tt) (λ q. tt)
-wait_home n β arms i s j W2 e h = by (Home i) (choosing (arms j)) (waits s j W2) (waits s j W3) (λ q r. tt) (λ q r. tt)
-wait_home n β arms i s j W3 e h = by (Home i) (same (mygroup (arms j)) s) (next n s j) (waits s j W4) (λ q. next_home n i s j)
-    (λ d r. absurd (clash (same s s) (same_refl s) (subst (λ y. T (not (same (mygroup y) s))) e (subst (λ y. T (not (same (mygroup (arms y)) s))) r d))))
-wait_home n β arms i s j W4 e h = by (Home i) (flag (arms j)) (waits s j W5) (next n s j) (λ q r. h r) (λ q. next_home n i s j)
-wait_home n β arms i s j W5 e h = by (Home i) (same β s) (waits s j W6) (next n s j) (λ q r. h r) (λ q. next_home n i s j)
-wait_home n β arms i s j W6 e h = by (Home i) (same (mygroup (arms j)) s) (next n s j) (waits s j W4) (λ q. next_home n i s j) (λ q r. h r)
+wait_home n β arms i s j W1 e h = grind arith
+wait_home n β arms i s j p e h = grind arith
 
 step_home : (n : ℕ) (β : Bool) (arms : ℕ → Stance) (i : ℕ) (a : Stance) → arms i ≡ a → Home i a → Home i (step_arm n β arms a)
 step_home n β arms i (d5 s) e h = λ q. tt

@@ -12,7 +12,7 @@ use Rattle.door.specs.declared.position.Place.{Place}
 use Rattle.door.specs.declared.position.Place.TheVariants.{W1, W2, W3, W4, W5, W6}
 use Rattle.door.specs.declared.position.Position.{Position}
 use Rattle.door.specs.declared.position.Position.TheVariants.{Idle, Doorway, Waiting, Inside, Leaving}
-use Rattle.door.proofs.Bools.{same, by, cond_on, cond_off, test_ne}
+use Rattle.door.proofs.Bools.{same, by, cond_on, test_ne}
 
 -- an arm: its position, its side, and what its mygroup register holds where that is not its side
 pub data Stance : Type 0 where

@@ -92,10 +92,6 @@ bit_same b c = grind arith
 pub bit_not : (x : Bool) → 1 - bit x ≡ bit (not x)
 bit_not x = grind arith
 
-push : {A B : Type 0} (f : A → B) (b : Bool) (x y : A) → cond b (f x) (f y) ≡ f (cond b x y)
-push f true x y = refl
-push f false x y = refl
-
 -- the value that a waiting arm reads, and where it leads
 abbrev sees : Bool → Stance → Place → Bool
 sees β b W1 = β
@@ -104,18 +100,6 @@ sees β b W3 = mygroup b
 sees β b W4 = flag b
 sees β b W5 = β
 sees β b W6 = mygroup b
-
-next_position : (n : ℕ) (u : Bool) (j : ℕ) → onward n j ≡ position (next n u j)
-next_position n u j = push position (ltb j n) (waits u (j + 1) W1) (inside u false)
-
--- a choice by two bits, and one by a single bit
-by_two : (x u : Bool) (p q : Position) (a b : Stance) → p ≡ position a → q ≡ position b → cond (eqb (bit x) (bit u)) p q ≡ position (cond (same x u) a b)
-by_two x u p q a b ep eq =
-    ap (λ t. cond t p q) (bit_same x u) ∙ (ap (λ z. cond (same x u) z q) ep ∙ (ap (λ z. cond (same x u) (position a) z) eq ∙ push position (same x u) a b))
-
-by_one : (x : Bool) (p q : Position) (a b : Stance) → p ≡ position a → q ≡ position b → cond (eqb (bit x) 0) p q ≡ position (cond x b a)
-by_one true p q a b ep eq = eq
-by_one false p q a b ep eq = ep
 
 next_waiting : (n : ℕ) (β : Bool) (b : Stance) (u : Bool) (j : ℕ) (p : Place) → next_place n (bit u) (bit (sees β b p)) j p ≡ position (step_waiting n β b u j p)
 next_waiting n β b u j p = grind arith

@@ -17,7 +17,7 @@ use Rattle.door.specs.declared.call.Call.TheVariants.{Begin, Step, Admit, Confir
 use Rattle.door.specs.declared.position.Phase.{Phase}
 use Rattle.door.specs.declared.position.Phase.TheVariants as P
 use Rattle.door.specs.declared.refusal.Refusal.{Refusal}
-use Rattle.door.proofs.Bools.{and_T, T_and, T_true}
+use Rattle.door.proofs.Bools.{and_T, T_and}
 use Rattle.door.proofs.Rooms.{arms_few, arms_fit, length_cleared}
 use Rattle.door.proofs.Accepted.{for_arm_none, begin_none, step_none, admit_none, leave_none, arm_in, known_arm}
 use Rattle.door.proofs.machine.Machine.{Stance, idle, position, at, out, Move, begin, step, admit, leave, is_step, is_begin, allowed, may_step, Machine, moved}
@@ -88,11 +88,11 @@ phase_shown s g mir p i lo hi = ap (λ z. same_phase (phase_of z) p) (mir.shows 
 pub entry_goes : (w : ℕ) (sd : Bool) (s : State) (g : Machine) → 1 ≤ w → w ≤ g.n → Mirror s g → Waiting sd (g.arms w) → (c : Call) (m : Move) (i : ℕ)
     → Mirror (after s c) (moved g m i) → ((b : ℕ) → steps b s c ≡ (is_step m && eqb i b)) → Entry m i w (moved g m i) → T (goes_inside w s c)
 entry_goes w sd s g lo hi mir wait c m i mir' st (q, k, ins) =
-    T_and (steps w s c) (is_in P.W s w && is_in P.F (after s c) w)
-    (subst T (sym (st w)) (T_and (is_step m) (eqb i w) k (subst (λ z. T (eqb i z)) q (eqb_refl i))))
-    (T_and (is_in P.W s w) (is_in P.F (after s c) w)
-    (subst T (sym (phase_shown s g mir P.W w lo hi)) (subst (λ y. T (at P.W y)) (sym wait.2) tt))
-    (subst T (sym (phase_shown (after s c) (moved g m i) mir' P.F w lo hi)) ins))
+    let before = phase_shown s g mir P.W w lo hi in
+    let afterwards = phase_shown (after s c) (moved g m i) mir' P.F w lo hi in
+    let step_is = st w in
+    let waiting = wait.2 in
+    grind (arith, nat_tests)
 
 -- a state that mirrors a machine of n arms with its invariant
 pub record Sound (s : State) (n : ℕ) : Type 0 where
@@ -117,14 +117,7 @@ unless_n : (r : Option Refusal) (x y : State) → x.n ≡ y.n → (unless r x y)
 unless_n r x y e = grind arith
 
 after_n : (s : State) (c : Call) → (after s c).n ≡ s.n
-after_n s (Begin i) = unless_n (refusal_of s (Begin i)) (done s (Begin i)) s refl
-after_n s (Step i) = unless_n (refusal_of s (Step i)) (done s (Step i)) s refl
-after_n s (Admit i) = unless_n (refusal_of s (Admit i)) (done s (Admit i)) s refl
-after_n s (Confirm z i) = refl
-after_n s (Leave z i) = unless_n (refusal_of s (Leave z i)) (done s (Leave z i)) s refl
-after_n s (Look i) = unless_n (refusal_of s (Look i)) s s refl
-after_n s (Tally i k) = unless_n (refusal_of s (Tally i k)) s s refl
-after_n s (Way i) = unless_n (refusal_of s (Way i)) s s refl
+after_n s c = grind arith
 
 pub run_n : (cs : List Call) (s : State) → (run s cs).n ≡ s.n
 run_n [] s = refl

@@ -128,40 +128,14 @@ module _ (bit : Bool) (arms : ℕ → Stage) (w : ℕ) (s : Bool) (e : arms w �
   w_side u q = subst (λ y. T (has u y)) (sym e) q
 
   away : (a a' : Stage) (b' : Bool) → Goes bit arms a a' b' → Own bit arms a → T (same b' s) → T (same bit s)
-  away a a' b' rests o q = q
-  away a a' b' begins o q = q
-  away a a' b' reads o q = q
-  away a a' b' ends o q = q
-  away a a' b' (enters f) o q = q
-  away a a' b' leaves o q = q
   away a a' b' (turns {t = u}) o q = same_trans bit (not u) s (o w (w_side (not u) q)) q
-  away a a' b' quits o q = q
-
-  left_reads : left (same bit s) s (read bit) ≤ left (same bit s) s coming
-  left_reads = grind arith
-
-  left_enter : (u : Bool) → (T (same (not u) s) → T (same bit (not u))) → left (same bit s) s (inside u) + 1 ≤ left (same bit s) s (waiting u)
-  left_enter u f = grind arith
-
-  left_turns : (u : Bool) → (T (same (not u) s) → T (same bit (not u))) → left (same (not u) s) s (turned u) ≤ left (same bit s) s (leaving u)
-  left_turns u f = grind arith
-
-  left_quits : (u : Bool) → T (same bit (not u)) → left (same bit s) s resting ≤ left (same bit s) s (turned u)
-  left_quits u f = grind arith
+  away a a' b' goes o q = q
 
   -- what a call of b leaves, and what an entry of b uses up
   left_goes : (a a' : Stage) (b' : Bool) → Goes bit arms a a' b' → Own bit arms a → (left (same b' s) s a' ≤ left (same bit s) s a) × (T (at P.W a && at P.F a') → left (same b' s) s a' + 1 ≤ left (same bit s) s a)
-  left_goes a a' b' rests o = (omega arith, λ t. absurd (never a t))
-    where
-      never : (a : Stage) → T (at P.W a && at P.F a) → ⊥
-      never a t = grind arith
-  left_goes a a' b' begins o = (omega arith, λ t. absurd t)
-  left_goes a a' b' reads o = (left_reads, λ t. absurd t)
-  left_goes a a' b' ends o = (omega arith, λ t. absurd t)
-  left_goes a a' b' (enters {t = u} f) o = let x = left_enter u (λ q. f w (w_side (not u) q)) in (omega arith, λ t. x)
-  left_goes a a' b' leaves o = (omega arith, λ t. absurd t)
-  left_goes a a' b' (turns {t = u}) o = (left_turns u (λ q. o w (w_side (not u) q)), λ t. absurd t)
-  left_goes a a' b' (quits {t = u}) o = (left_quits u o, λ t. absurd t)
+  left_goes a a' b' (enters {t = u} f) o = let x : T (same (not u) s) → T (same bit (not u)) = λ q. f w (w_side (not u) q) in grind arith
+  left_goes a a' b' (turns {t = u}) o = let x : T (same (not u) s) → T (same bit (not u)) = λ q. o w (w_side (not u) q) in grind arith
+  left_goes a a' b' goes o = grind arith
 
 -- the arm that waits after a call waited before it, or has ended its doorway
 wait_goes : (bit : Bool) (arms : ℕ → Stage) (a a' : Stage) (b' : Bool) (s : Bool) → Goes bit arms a a' b' → a' ≡ waiting s → T (not (at P.D a && at P.W a')) → a ≡ waiting s

@@ -60,12 +60,13 @@ module _ (w b n : ℕ) (wlo : 1 ≤ w) (whi : w ≤ n) (blo : 1 ≤ b) (bhi : b 
     pair_shown : (g' : Machine) → g'.n ≡ n → Mirror (after s c) g' → (p q : Phase) (v : ℕ) → 1 ≤ v → v ≤ n
         → (is_in p s v && is_in q (after s c) v) ≡ (at p (g.arms v) && at q (g'.arms v))
     pair_shown g' e mir' p q v lo hi =
-        ap (λ z. z && is_in q (after s c) v) (phase_shown s g past.sound.mirror p v lo (let z = past.sound.arms_are in omega arith))
-        ∙ ap (λ z. at p (g.arms v) && z) (phase_shown (after s c) g' mir' q v lo (omega arith))
+        let before = phase_shown s g past.sound.mirror p v lo (let z = past.sound.arms_are in omega arith) in
+        let afterwards = phase_shown (after s c) g' mir' q v lo (omega arith) in
+        cc
 
     pair_meant : (g' : Machine) (p q : Phase) (v : ℕ)
         → (at p (g.arms v) && at q (g'.arms v)) ≡ (StageAt p (stage (g.arms v)) && StageAt q (stage (g'.arms v)))
-    pair_meant g' p q v = sym (ap (λ z. z && StageAt q (stage (g'.arms v))) (phase_meant p (g.arms v)) ∙ ap (λ z. at p (g.arms v) && z) (phase_meant q (g'.arms v)))
+    pair_meant g' p q v = let x = phase_meant p (g.arms v) in let y = phase_meant q (g'.arms v) in cc
 
     Next : Type 0
     Next = Past (after s c) (cond (ends_doorway w s c) 0 (cond (goes_inside b s c) (k + 1) k)) (cond (ends_doorway w s c) (is_in P.I s b) o)

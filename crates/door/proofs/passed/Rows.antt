@@ -21,7 +21,7 @@ use Rattle.door.specs.declared.position.Phase.TheVariants as P
 use Rattle.door.specs.declared.position.Position.{Position}
 use Rattle.door.specs.declared.position.Position.TheVariants.{Idle, Doorway, Waiting, Inside, Leaving}
 use Rattle.door.specs.declared.refusal.Refusal.{Refusal}
-use Rattle.door.proofs.Bools.{clash, none_of, and_T, T_and, by, cond_off, is_true, is_false, test_ne}
+use Rattle.door.proofs.Bools.{clash, none_of, and_T, T_and, by, is_true, is_false, test_ne}
 use Rattle.door.proofs.Tables.{getD_each}
 use Rattle.door.proofs.machine.Mirror.{tallied_table}
 use Rattle.door.proofs.Accepted.{known_arm}
@@ -33,17 +33,11 @@ own_row k p q arms =
     cond (same_phase p P.D && same_phase q P.W) (with_row (replicate arm_limit 0) (map is_idle arms) (get_or arms k no_arm))
     (cond (same_phase p P.X && same_phase q P.I) (with_row (replicate arm_limit 0) (replicate arm_limit false) (get_or arms k no_arm)) (get_or arms k no_arm))
 
-push_at : (t : Bool) (j : ℕ) (xs ys : List Arm) → get_or (cond t xs ys) j no_arm ≡ cond t (get_or xs j no_arm) (get_or ys j no_arm)
-push_at t j xs ys = grind arith
-
 counted_own : (k : ℕ) (a : Arm) → counted k k a ≡ a
 counted_own k a = grind (arith, nat_tests)
 
 tallied_own : (k : ℕ) (p q : Phase) (arms : List Arm) → k < length arms → get_or (tallied k p q arms) k no_arm ≡ own_row k p q arms
 tallied_own k p q arms l = grind (arith, get_or-set_same, getD_each, counted_own)
-
-either : (t : Bool) (a : Arm) → cond t a a ≡ a
-either t a = grind arith
 
 tallied_other : (k : ℕ) (p q : Phase) (arms : List Arm) (j : ℕ) → j < length arms → j ≢ k
     → get_or (tallied k p q arms) j no_arm ≡ cond (same_phase p P.W && same_phase q P.F) (counted k j (get_or arms j no_arm)) (get_or arms j no_arm)

@@ -28,7 +28,6 @@ quiet_step n β arms (waits s j p) d = outcome (λ r. T (not (choosing r))) n β
 quiet_step n β arms a d = tt
 
 pub quiet_act : (m : Move) (n : ℕ) (β : Bool) (arms : ℕ → Stance) (a : Stance) → T (not (choosing a)) → T (not (paid m a)) → T (not (choosing (act m n β arms a)))
-quiet_act step n β arms a c d = quiet_step n β arms a d
 quiet_act m n β arms a c d = grind arith
 
 not_D : (m : Move) (a : Stance) (t : Bool) → T (has t a) → T (not (choosing a)) → T (not (paid m a))

@@ -1,5 +1,6 @@
 -- How the potential of a waiting arm changes with a move.
 use Rattle.std.proofs.Common.{◌≡◌, ℕ, ◌+◌, ◌*◌, ◌≤◌, Bool, true, false, cond, not, T, eqb, ◌≢◌, sym, ap, ◌∙◌, subst, arith, eqb→eq}
+use Rattle.std.proofs.lemmas.Bool.Decides.{nat_tests}
 use Rattle.door.specs.declared.position.Place.{Place}
 use Rattle.door.proofs.Bools.{same, by, test_ne}
 use Rattle.door.proofs.machine.Machine.{Stance, idle, d1, d2, d3, d4, d5, waits, inside, x1, x2, has, choosing, flag, step_waiting, changed, changed_same, changed_other, Machine, moved_to}
@@ -50,11 +51,7 @@ rank_bound e n s a j p lo hi = grind arith
 -- the rank does not rise where the arm w itself looks no worse
 rank_keeps : (e : Bool) (n : ℕ) (s : Bool) (arms : ℕ → Stance) (w : ℕ) (r : Stance) → ((p : Place) → place_rank (has (not s) r) (flag r) p ≤ place_rank (has (not s) (arms w)) (flag (arms w)) p) →
     (x : Stance) → rank_of e n s (changed arms w r) x ≤ rank_of e n s arms x
-rank_keeps true n s arms w r h (waits u j p) =
-    by (λ y. rank true n s y j p ≤ rank true n s (arms j) j p) (eqb j w) r (arms j)
-    (λ t. let q : place_rank (has (not s) r) (flag r) p ≤ place_rank (has (not s) (arms j)) (flag (arms j)) p = subst (λ y. place_rank (has (not s) r) (flag r) p ≤ place_rank (has (not s) (arms y)) (flag (arms y)) p) (sym (eqb→eq j w t)) (h p) in omega arith)
-    (λ t. omega arith)
-rank_keeps a n s arms w r h b = omega arith
+rank_keeps e n s arms w r h x = grind (arith, nat_tests, h)
 
 module _ (g : Machine) (w : ℕ) (s : Bool) (j : ℕ) (p : Place) (e : g.arms w ≡ waits s j p) where
   -- the waiting arm's own step

@@ -23,16 +23,12 @@ at_d2 i sd a h = absurd h
 
 -- a side after a move was there, or is read now
 has_step : (n : ℕ) (β : Bool) (arms : ℕ → Stance) (a : Stance) (t : Bool) → T (has t (step_arm n β arms a)) → T (has t a) ⊎ ((x : Bool) × (a ≡ d2 x))
-has_step n β arms (idle g) t h = absurd h
-has_step n β arms (d1 g) t h = absurd h
 has_step n β arms (d2 g) t h = inr (g, refl)
 has_step n β arms (waits s j p) t h = inl (outcome (λ r. T (has t r) → T (same t s)) n β (arms j) s (λ j p x. x) (λ x. x) j p h)
-has_step n β arms (x2 s) t h = absurd h
-has_step n β arms a t h = inl h
+has_step n β arms a t h = inl (grind arith)
 
 has_act : (m : Move) (n : ℕ) (β : Bool) (arms : ℕ → Stance) (a : Stance) (t : Bool) → T (has t (act m n β arms a)) → T (has t a) ⊎ (T (is_step m) × ((x : Bool) × (a ≡ d2 x)))
-has_act step n β arms a t h = ⊎_elim (λ x. inl x) (λ x. inr (tt, x)) (has_step n β arms a t h)
-has_act m n β arms a t h = inl (grind arith)
+has_act m n β arms a t h = grind arith
 
 module _ (w n : ℕ) (wlo : 1 ≤ w) (whi : w ≤ n) where
   abbrev Reads : Machine → ℕ → Type 0

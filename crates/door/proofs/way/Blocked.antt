@@ -168,7 +168,7 @@ module _ (u : ℕ) (sd : Bool) (n : ℕ) (ulo : 1 ≤ u) (uhi : u ≤ n) (k : �
         calls = Step l ∷ rest.calls;
         count = let z = rest.count in omega arith;
         alone = ((λ t. absurd (not_own t)), rest.alone);
-        stays_out = λ z. ⊎_elim (not_inside (after s (Step l)) g' mir' e wait' (Step l) s refl) rest.stays_out z;
+        stays_out = λ z. ⊎_elim {B = GoesInside u (after s (Step l)) rest.calls} (not_inside (after s (Step l)) g' mir' e wait' (Step l) s refl) rest.stays_out z;
       })
       (λ none_in. own_steps m s g b (λ l lne d.
       let r = b.keeps.awake l (D_awake (g.arms l) d) in
