@@ -115,15 +115,6 @@ Seen β a a' = (t : Bool) → T (has t a') → (T (has t a) × (T (choosing a') 
 seen_same : (β : Bool) (a : Stance) → Seen β a a
 seen_same β a t h = inl (h, λ x. x)
 
-seen_step : (n : ℕ) (β : Bool) (arms : ℕ → Stance) (a : Stance) → Seen β a (step_arm n β arms a)
-seen_step n β arms (idle g) = λ t h. absurd h
-seen_step n β arms (d1 g) = λ t h. absurd h
-seen_step n β arms (d2 g) = λ t h. inr h
-seen_step n β arms (d5 s) = λ t h. inl (h, λ x. tt)
-seen_step n β arms (waits s j p) = outcome (Seen β (waits s j p)) n β (arms j) s (λ j p t h. inl (h, λ x. x)) (λ t h. inl (h, λ x. x)) j p
-seen_step n β arms (x2 s) = λ t h. absurd h
-seen_step n β arms a = λ t h. inl (h, λ x. x)
-
 pub seen_act : (m : Move) (n : ℕ) (β : Bool) (arms : ℕ → Stance) (a : Stance) → Seen β a (act m n β arms a)
 seen_act m n β arms a t h = grind arith
 
@@ -151,8 +142,7 @@ act_own leave n β arms range pos (inside s true) d h = h
 act_own m n β arms range pos a d h = h
 
 pub changed_seen : (β : Bool) (arms : ℕ → Stance) (i : ℕ) (a : Stance) → Seen β (arms i) a → (k : ℕ) → Seen β (arms k) (changed arms i a k)
-changed_seen β arms i a h k =
-    by (Seen β (arms k)) (eqb k i) a (arms k) (λ e. subst (λ x. Seen β (arms x) a) (sym (eqb→eq k i e)) h) (λ d. seen_same β (arms k))
+changed_seen β arms i a h k t x = grind (arith, nat_tests)
 
 pub changed_range : (n : ℕ) (arms : ℕ → Stance) (i : ℕ) (a : Stance) → 1 ≤ i → i ≤ n → Ranged n arms → Ranged n (changed arms i a)
 changed_range n arms i a lo hi range k t h = let r = range k t in grind (arith, nat_tests)
@@ -167,23 +157,15 @@ wait_home : (n : ℕ) (β : Bool) (arms : ℕ → Stance) (i : ℕ) (s : Bool) (
 wait_home n β arms i s j W1 e h = grind arith
 wait_home n β arms i s j p e h = grind arith
 
-step_home : (n : ℕ) (β : Bool) (arms : ℕ → Stance) (i : ℕ) (a : Stance) → arms i ≡ a → Home i a → Home i (step_arm n β arms a)
-step_home n β arms i (d5 s) e h = λ q. tt
-step_home n β arms i (waits s j p) e h = wait_home n β arms i s j p e h
-step_home n β arms i a e h = tt
-
 act_home : (m : Move) (n : ℕ) (β : Bool) (arms : ℕ → Stance) (i : ℕ) → Home i (arms i) → Home i (act m n β arms (arms i))
 act_home m n β arms i h = go m (arms i) refl h
   where
     go : (m : Move) (a : Stance) → arms i ≡ a → Home i a → Home i (act m n β arms a)
-    go begin (idle g) e h = tt
-    go step a e h = step_home n β arms i a e h
-    go admit (inside s o) e h = tt
-    go leave (inside s true) e h = tt
-    go m a e h = h
+    go step (waits s j p) e h = wait_home n β arms i s j p e h
+    go m a e h = grind arith
 
 changed_home : (arms : ℕ → Stance) (i : ℕ) (a : Stance) → Home i a → ((k : ℕ) → Home k (arms k)) → (k : ℕ) → Home k (changed arms i a k)
-changed_home arms i a h old k = by (Home k) (eqb k i) a (arms k) (λ q. subst (λ y. Home y a) (sym (eqb→eq k i q)) h) (λ q. old k)
+changed_home arms i a h old k = let x = old k in grind (arith, nat_tests)
 
 inv_still : (g : Machine) → Inv g → (m : Move) (i : ℕ) → 1 ≤ i → i ≤ g.n → T (not (turns m (g.arms i))) →
     Inv (moved_to g g.group i (act m g.n g.group g.arms (g.arms i)))

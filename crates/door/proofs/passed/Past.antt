@@ -79,8 +79,7 @@ module _ (w b n : ℕ) (wlo : 1 ≤ w) (whi : w ≤ n) (blo : 1 ≤ b) (bhi : b 
         record {
           sound = record { machine = g; mirror = mir'; keeps = past.sound.keeps; arms_are = past.sound.arms_are };
           rules = past.rules;
-          counted = subst (λ x. Counted w b (meaning g) (cond x 0 (cond (goes_inside b s c) (k + 1) k)) (cond x (is_in P.I s b) o)) (sym E)
-              (subst (λ x. Counted w b (meaning g) (cond x (k + 1) k) o) (sym N) past.counted);
+          counted = rw (E, N) past.counted;
         }
     went (goes m i lo hi al mir' _ st) =
         let g' : Machine = moved g m i in
@@ -99,9 +98,7 @@ module _ (w b n : ℕ) (wlo : 1 ≤ w) (whi : w ≤ n) (blo : 1 ≤ b) (bhi : b 
         record {
           sound = record { machine = g'; mirror = mir'; keeps = inv_moved g past.sound.keeps m i lo hi; arms_are = e };
           rules = inv_change (meaning g) (meaning g') i change past.rules;
-          counted = subst (λ x. Counted w b (meaning g') (cond x 0 (cond (goes_inside b s c) (k + 1) k)) (cond x (is_in P.I s b) o)) (sym E)
-              (subst (λ x. Counted w b (meaning g') (cond (ends w (meaning g) (meaning g')) 0 (cond x (k + 1) k)) (cond (ends w (meaning g) (meaning g')) (is_in P.I s b) o)) (sym N)
-              (subst (λ x. Counted w b (meaning g') (cond (ends w (meaning g) (meaning g')) 0 (cond (enters b (meaning g) (meaning g')) (k + 1) k)) (cond (ends w (meaning g) (meaning g')) x o)) (sym I) new));
+          counted = rw (E, N, I) new;
         }
 
   pub past_call : (s : State) (k : ℕ) (o : Bool) → Past s k o → (c : Call)

@@ -1,5 +1,6 @@
 -- A waiting arm's row and notes are what its history counts.
 use Rattle.std.proofs.Common.{◌≡◌, ℕ, ◌+◌, ◌-◌, ◌<◌, ◌≤◌, min, Bool, true, false, cond, not, ◌&&◌, T, eqb, ◌≢◌, ◌⊎◌, List, [], ◌∷◌, map, length, get_or, set, replicate, Some, None, Option, sym, refl, ap, ◌∙◌, subst, inl, inr, ⊎_elim, arith, eqb→eq}
+use Rattle.std.proofs.lemmas.Grind.{get_or-set_at}
 use Rattle.std.proofs.lemmas.Bool.Decides.{nat_tests}
 use lib.Dec.{eqb_refl}
 use Rattle.std.proofs.lemmas.Bool.{cases_eq}
@@ -148,31 +149,19 @@ module _ (w b n : ℕ) (wlo : 1 ≤ w) (whi : w ≤ n) (blo : 1 ≤ b) (bhi : b 
           let E : (eqb w w && (is_in P.D s w && is_in P.W (stepped w s) w)) ≡ (is_in P.D s w && same_phase after_own P.W) =
           ap (λ x. x && (is_in P.D s w && is_in P.W (stepped w s) w)) (is_true (eqb w w) (eqb_refl w)) ∙ ap (λ z. is_in P.D s w && same_phase z P.W) (phase_own w wlo whi) in
           let e : arm_at (stepped w s) w ≡ own_row (w - 1) (phase_at s w) after_own (base w wlo whi) = tallied_own (w - 1) (phase_at s w) after_own (base w wlo whi) (let x = base_length w wlo whi in omega arith) in
-          subst (λ x. Row (arm_at (stepped w s) w) (cond x 0 (cond N (k + 1) k)) (cond x (is_in P.I s b) o)) (sym E)
-          (subst (λ a. Row a (cond (is_in P.D s w && same_phase after_own P.W) 0 (cond N (k + 1) k)) (cond (is_in P.D s w && same_phase after_own P.W) (is_in P.I s b) o)) (sym e)
-          (subst (λ a. Row
-          (cond (is_in P.D s w && same_phase after_own P.W) (with_row (replicate arm_limit 0) (map is_idle (base w wlo whi)) a)
-          (cond (is_in P.X s w && same_phase after_own P.I) (with_row (replicate arm_limit 0) (replicate arm_limit false) a) a))
-          (cond (is_in P.D s w && same_phase after_own P.W) 0 (cond N (k + 1) k)) (cond (is_in P.D s w && same_phase after_own P.W) (is_in P.I s b) o))
-          (sym (base_own w wlo whi))
-          (own_kept (is_in P.D s w && same_phase after_own P.W) (is_in P.X s w && same_phase after_own P.I) N
+          rw (E, e, base_own w wlo whi) (own_kept (is_in P.D s w && same_phase after_own P.W) (is_in P.X s w && same_phase after_own P.I) N
           (and_T (is_in P.D s w) (same_phase after_own P.W))
           (λ d x y. clash (is_in P.D s w && same_phase after_own P.W) (T_and (is_in P.D s w) (same_phase after_own P.W) x y) d)
           (λ t. (and_T (is_in P.X s w) (same_phase after_own P.I) t).1)
           (λ t.
           let x = and_T (eqb w b) (is_in P.W s b && is_in P.F (stepped w s) b) t in
-          subst (λ z. T (same_phase z P.F)) (phase_own w wlo whi) (subst (λ v. T (is_in P.F (stepped w s) v)) (sym (eqb→eq w b x.0)) (and_T (is_in P.W s b) (is_in P.F (stepped w s) b) x.1).1)))))
+          subst (λ z. T (same_phase z P.F)) (phase_own w wlo whi) (subst (λ v. T (is_in P.F (stepped w s) v)) (sym (eqb→eq w b x.0)) (and_T (is_in P.W s b) (is_in P.F (stepped w s) b) x.1).1)))
 
     -- the step of another arm
     module _ (i : ℕ) (lo : 1 ≤ i) (hi : i ≤ n) (ne : i ≢ w) (k : ℕ) (o : Bool) (low : T (is_in P.W s w) → k ≤ 2) (h : Row (arm_at s w) k o) where
       other_count : (N : Bool) → (T N → i ≡ b) → (T (not N) → i ≢ b) → T (is_in P.W s w)
           → get_or (set (arm_at s w).row (i - 1) (min (get_or (arm_at s w).row (i - 1) 0 + 1) tally_limit)) (b - 1) 0 ≡ cond N (k + 1) k
-      other_count true f g t =
-          let len = h.full in
-          subst (λ z. get_or (set (arm_at s w).row (z - 1) (min (get_or (arm_at s w).row (z - 1) 0 + 1) tally_limit)) (b - 1) 0 ≡ k + 1) (sym (f tt))
-          (get_or-set_same (arm_at s w).row (b - 1) (min (get_or (arm_at s w).row (b - 1) 0 + 1) tally_limit) 0 (omega arith)
-          ∙ (ap (λ z. min (z + 1) tally_limit) (h.count t) ∙ capped k (low t)))
-      other_count false f g t = let d : i ≢ b = g tt in get_or-set_other (arm_at s w).row (i - 1) (b - 1) _ 0 (omega arith) ∙ h.count t
+      other_count N f g t = let len = h.full in let was = h.count t in let bound = low t in grind (arith, nat_tests, get_or-set_at, get_or-set_other)
 
       other_kept : (Z N : Bool) → (T N → (i ≡ b) × T Z) → (T (not N) → i ≡ b → T Z → ⊥)
           → Row (cond Z (counted (i - 1) (w - 1) (arm_at s w)) (arm_at s w)) (cond N (k + 1) k) o
@@ -203,9 +192,7 @@ module _ (w b n : ℕ) (wlo : 1 ≤ w) (whi : w ≤ n) (blo : 1 ≤ b) (bhi : b 
           let e : arm_at (stepped i s) w ≡ cond Z (counted (i - 1) (w - 1) (arm_at s w)) (arm_at s w) =
           tallied_other (i - 1) (phase_at s i) q (base i lo hi) (w - 1) (let x = base_length i lo hi in omega arith) (omega arith)
           ∙ ap (λ a. cond Z (counted (i - 1) (w - 1) a) a) (base_other i lo hi w wlo (λ z. ne (sym z))) in
-          subst (λ x. Row (arm_at (stepped i s) w) (cond x 0 (cond N (k + 1) k)) (cond x (is_in P.I s b) o)) (sym E)
-          (subst (λ a. Row a (cond N (k + 1) k) o) (sym e)
-          (other_kept Z N
+          rw (E, e) (other_kept Z N
           (λ t.
           let x = and_T (eqb i b) (is_in P.W s b && is_in P.F (stepped i s) b) t in
           let y = and_T (is_in P.W s b) (is_in P.F (stepped i s) b) x.1 in
@@ -214,7 +201,7 @@ module _ (w b n : ℕ) (wlo : 1 ≤ w) (whi : w ≤ n) (blo : 1 ≤ b) (bhi : b 
           (λ d ib z.
           let y = and_T (is_in P.W s i) (same_phase q P.F) z in
           clash N (T_and (eqb i b) (is_in P.W s b && is_in P.F (stepped i s) b) (subst (λ v. T (eqb i v)) ib (eqb_refl i))
-          (T_and (is_in P.W s b) (is_in P.F (stepped i s) b) (subst (λ v. T (is_in P.W s v)) ib y.0) (subst (λ v. T (is_in P.F (stepped i s) v)) ib (subst (λ z. T (same_phase z P.F)) (sym (phase_own i lo hi)) y.1)))) d)))
+          (T_and (is_in P.W s b) (is_in P.F (stepped i s) b) (subst (λ v. T (is_in P.W s v)) ib y.0) (subst (λ v. T (is_in P.F (stepped i s) v)) ib (subst (λ z. T (same_phase z P.F)) (sym (phase_own i lo hi)) y.1)))) d))
 
     -- any call
     abbrev Told : State → (ℕ → Bool) → ℕ → Bool → Type 0

@@ -19,14 +19,6 @@ pub data Critical (g : Machine) (w : ℕ) (s : Bool) (b : ℕ) : Type 0 where
   self : b ≡ w → Quiet g.arms → (T (same g.group s) → (k : ℕ) → T (has (not s) (g.arms k)) → ⊥) → Critical g w s b
 
 -- tables
-quiet_step : (n : ℕ) (β : Bool) (arms : ℕ → Stance) (a : Stance) → T (not (at P.D a)) → T (not (choosing (step_arm n β arms a)))
-quiet_step n β arms (d1 g) d = absurd d
-quiet_step n β arms (d2 g) d = absurd d
-quiet_step n β arms (d3 s g) d = absurd d
-quiet_step n β arms (d4 s) d = absurd d
-quiet_step n β arms (waits s j p) d = outcome (λ r. T (not (choosing r))) n β (arms j) s (λ j p. tt) tt j p
-quiet_step n β arms a d = tt
-
 pub quiet_act : (m : Move) (n : ℕ) (β : Bool) (arms : ℕ → Stance) (a : Stance) → T (not (choosing a)) → T (not (paid m a)) → T (not (choosing (act m n β arms a)))
 quiet_act m n β arms a c d = grind arith
 
@@ -77,10 +69,7 @@ module _ (g : Machine) (inv : Inv g) (w : ℕ) (s : Bool) (j : ℕ) (p : Place) 
 
   -- the group stays s where an arm with the other side stands against it
   foe_holds : (b : ℕ) → T (same g.group s) → T (has (not s) (g.arms b)) → (m : Move) (a : Stance) → Own g.n g.group g.arms a → T (same (turn m g.group a) s)
-  foe_holds b q h step (x1 u) o = ⊎_elim (λ y. absurd (split_up (g.arms b) g.group s u y q h (o b))) (λ d. same_other u s d) (test (same u s))
-    where
-      split_up : (a : Stance) (β s u : Bool) → T (same u s) → T (same β s) → T (has (not s) a) → (T (has (not u) a) → T (same β (not u))) → ⊥
-      split_up a β s u y q h f = grind arith
+  foe_holds b q h step (x1 u) o = let x = o b in grind arith
   foe_holds b q h m a o = q
 
   quiet_after : (m : Move) (i : ℕ) → Quiet g.arms → T (not (paid m (g.arms i))) → Quiet (moved g m i).arms

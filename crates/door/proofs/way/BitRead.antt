@@ -18,15 +18,9 @@ use Rattle.door.proofs.machine.Reached.{Came, stays, goes, came, phase_shown, So
 
 -- the one doorway place that reads the group
 at_d2 : (i sd : ℕ) (a : Stance) → T (at P.D a && of_group (access_of i sd (position a))) → (x : Bool) × (a ≡ d2 x)
-at_d2 i sd (d2 g) h = (g, refl)
-at_d2 i sd a h = absurd h
+at_d2 i sd a h = grind arith
 
 -- a side after a move was there, or is read now
-has_step : (n : ℕ) (β : Bool) (arms : ℕ → Stance) (a : Stance) (t : Bool) → T (has t (step_arm n β arms a)) → T (has t a) ⊎ ((x : Bool) × (a ≡ d2 x))
-has_step n β arms (d2 g) t h = inr (g, refl)
-has_step n β arms (waits s j p) t h = inl (outcome (λ r. T (has t r) → T (same t s)) n β (arms j) s (λ j p x. x) (λ x. x) j p h)
-has_step n β arms a t h = inl (grind arith)
-
 has_act : (m : Move) (n : ℕ) (β : Bool) (arms : ℕ → Stance) (a : Stance) (t : Bool) → T (has t (act m n β arms a)) → T (has t a) ⊎ (T (is_step m) × ((x : Bool) × (a ≡ d2 x)))
 has_act m n β arms a t h = grind arith
 

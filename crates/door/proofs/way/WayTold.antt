@@ -22,12 +22,9 @@ Barred g sd = T (same g.group sd) × ((k : ℕ) × T (has (not sd) (g.arms k)))
 
 pub free_or_barred : (g : Machine) → Inv g → (sd : Bool) → Free g.group g.arms sd ⊎ Barred g sd
 free_or_barred g inv sd = ⊎_elim
-    (λ q. ⊎_elim
-    (λ x. inr (q, (x.0, x.3)))
+    (λ x. ⊎_elim (λ q. inr (q, (x.0, x.3))) (λ d. inl (λ k h. differ g.group sd d)) (test (same g.group sd)))
     (λ none. inl (λ k h. let r = inv.range k (not sd) h in absurd (clash (has (not sd) (g.arms k)) h (none k r.0 r.1))))
-    (find (λ k. has (not sd) (g.arms k)) g.n))
-    (λ d. inl (λ k h. differ g.group sd d))
-    (test (same g.group sd))
+    (find (λ k. has (not sd) (g.arms k)) g.n)
 
 -- sides as bits
 side_same : (v : Bool) (o : Option Bool) → has_side (bit v) (as_bit o) ≡ is_side v o
@@ -62,10 +59,10 @@ module _ (s : State) (n : ℕ) (sound : Sound s n) (w : ℕ) (lo : 1 ≤ w) (hi 
   group_bit = cond-false (eqb s.n 0) 0 (register s group) (ne_eqb s.n 0 (let z = size in omega arith)) ∙ sound.mirror.group_is
 
   same_told : eqb (bit_of s) (side_of (arm_at s w).side) ≡ same g.group sd
-  same_told = ap (λ x. eqb x (side_of (arm_at s w).side)) group_bit ∙ (ap (λ x. eqb (bit g.group) x) side_is ∙ bit_same g.group sd)
+  same_told = let x = group_bit in let y = side_is in let z = bit_same g.group sd in cc
 
   other_is : 1 - side_of (arm_at s w).side ≡ bit (not sd)
-  other_is = ap (λ x. 1 - x) side_is ∙ bit_not sd
+  other_is = let x = side_is in let y = bit_not sd in cc
 
   -- the side of arm k, in the table
   shown_side : (k : ℕ) → k < n → has_side (bit (not sd)) (get_or s.arms k no_arm).side ≡ has (not sd) (g.arms (k + 1))
