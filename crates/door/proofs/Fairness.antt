@@ -78,17 +78,12 @@ module _ (high number wanted : ℕ) (regs : List ℕ) (past : List Call) where
         → (Free sound.machine.group sound.machine.arms v → Free sound.machine.group sound.machine.arms t) → ⊥
     one_free u w t v wu ww d to from =
         let g : Machine = sound.machine in
-        let has_u : T (has (not v) (g.arms u)) = subst (λ a. T (has (not v) a)) (sym wu.2) (same_sym t (not v) (differ t v d)) in
-        let has_w : T (has (not t) (g.arms w)) = subst (λ a. T (has (not t) a)) (sym ww.2) (same_other t v d) in
+        let us = wu.2 in
+        let ws = ww.2 in
         ⊎_elim
-        (λ q. let f = to (λ k h. differ g.group t q) in clash (same g.group t) (same_trans g.group (not v) t (f u has_u) (same_sym t (not v) (differ t v d))) q)
-        (λ q.
-        let q' : T (same g.group t) = none_twice (same g.group t) q in
-        let f = from (λ k h. same_trans g.group t (not v) q' (differ t v d)) in opposite g.group t q' (same_sym g.group (not t) (f w has_w)))
-        (test (not (same g.group t)))
-      where
-        none_twice : (b : Bool) → T (not (not b)) → T b
-        none_twice b h = grind arith
+        (λ q. let f = from (λ k h. grind arith) w in grind arith)
+        (λ q. let f = to (λ k h. grind arith) u in grind arith)
+        (test (same g.group t))
 
     alike : (u w : ℕ) → 1 ≤ u → u ≤ n → T (is_in P.W now u) → 1 ≤ w → w ≤ n → T (is_in P.W now w)
         → (RightOfWay now u ↔ RightOfWay now w) ↔ (bit_read u start past ≡ bit_read w start past)

@@ -67,15 +67,11 @@ at_x1 a = false
 -- the step of a waiting arm keeps what it has passed, and an arm goes inside only while it is free to
 module _ (n : ℕ) (β : Bool) (arms : ℕ → Stance) (range : Ranged n arms) where
   next_own : (s : Bool) (j : ℕ) → 1 ≤ j → j ≤ n → (T (same β s) → (b : ℕ) → T (has (not s) (arms b)) → j + 1 ≤ b) → Own n β arms (next n s j)
-  next_own s j lo hi past =
-      by (Own n β arms) (ltb j n) (waits s (j + 1) W1) (inside s false)
-      (λ d. (omega arith, (let r = ltb→lt j n d in omega arith), (λ q b h. (past q b h, (λ l. absurd l)))))
-      (λ e k h. ⊎_elim (λ q. absurd (let r = nltb→le j n e in let x = past q k h in let y = range k (not s) h in omega arith)) (differ β s) (test (same β s)))
+  next_own s j lo hi past = grind (arith, nat_tests, range, past)
 
   -- arm j is not the one: what stands at or past j stands past it
   past_j : (s : Bool) (j : ℕ) (p : Place) → Passed β arms s j p → (T (same β s) → T (has (not s) (arms j)) → ⊥) → T (same β s) → (b : ℕ) → T (has (not s) (arms b)) → j + 1 ≤ b
-  past_j s j p past none q b h =
-      ⊎_elim (λ e. absurd (none q (subst (λ x. T (has (not s) (arms x))) e h))) (λ d. let x = (past q b h).0 in let d' : b ≢ j = d in omega arith) (cases_eq b j)
+  past_j s j p past none q b h = let x = (past q b h).0 in grind (arith, nat_tests, none q)
 
   pub wait_own : (s : Bool) (j : ℕ) (p : Place) → Own n β arms (waits s j p) → Own n β arms (step_waiting n β (arms j) s j p)
   wait_own s j W1 (lo, hi, past) =
@@ -102,11 +98,8 @@ module _ (n : ℕ) (β : Bool) (arms : ℕ → Stance) (range : Ranged n arms) w
 
   -- a move of an arm not in X1, seen with the arms as they were
   step_own : 1 ≤ n → (a : Stance) → T (not (at_x1 a)) → Own n β arms a → Own n β arms (step_arm n β arms a)
-  step_own pos (d5 s) d h = (omega arith, pos, (λ q b k. ((range b (not s) k).0, (λ l. absurd l))))
   step_own pos (waits s j p) d h = wait_own s j p h
-  step_own pos (inside s o) d h = h
-  step_own pos (x1 s) d h = absurd d
-  step_own pos a d h = tt
+  step_own pos a d h = grind (arith, range)
 
 -- what a move can do to its arm, as the others see it: a side it has it had, and it chooses only if it did; or the side is the group
 abbrev pub Seen : Bool → Stance → Stance → Type 0
@@ -120,11 +113,7 @@ seen_act m n β arms a t h = grind arith
 
 -- the others' facts last while the group does
 keep : (n : ℕ) (β : Bool) (arms arms' : ℕ → Stance) → ((k : ℕ) → Seen β (arms k) (arms' k)) → (a : Stance) → Own n β arms a → Own n β arms' a
-keep n β arms arms' seen (waits s j p) h = (h.0, h.1, λ q b hb. ⊎_elim (λ x. ((h.2 q b x.0).0, λ l e. contra (choosing (arms b)) (choosing (arms' b)) x.1 ((h.2 q b x.0).1 l e))) (λ y. absurd (opposite β s q y)) (seen b (not s) hb))
-keep n β arms arms' seen (inside s o) h = λ k hk. ⊎_elim (λ x. h k x.0) (λ y. same_sym (not s) β y) (seen k (not s) hk)
-keep n β arms arms' seen (x1 s) h = λ k hk. ⊎_elim (λ x. h k x.0) (λ y. same_sym (not s) β y) (seen k (not s) hk)
-keep n β arms arms' seen (x2 s) h = h
-keep n β arms arms' seen a h = tt
+keep n β arms arms' seen a h = grind (arith, seen)
 
 -- a step of X1 that turns the group
 abbrev pub turns : Move → Stance → Bool
@@ -149,9 +138,6 @@ changed_range n arms i a lo hi range k t h = let r = range k t in grind (arith, 
 
 pub changed_awake : (n : ℕ) (arms : ℕ → Stance) (i : ℕ) (a : Stance) → 1 ≤ i → i ≤ n → Awake n arms → Awake n (changed arms i a)
 changed_awake n arms i a lo hi awake k h = let r = awake k in grind (arith, nat_tests)
-
-next_home : (n k : ℕ) (s : Bool) (j : ℕ) → Home k (next n s j)
-next_home n k s j = by (Home k) (ltb j n) (waits s (j + 1) W1) (inside s false) (λ q r. tt) (λ q. tt)
 
 wait_home : (n : ℕ) (β : Bool) (arms : ℕ → Stance) (i : ℕ) (s : Bool) (j : ℕ) (p : Place) → arms i ≡ waits s j p → Home i (waits s j p) → Home i (step_waiting n β (arms j) s j p)
 wait_home n β arms i s j W1 e h = grind arith
@@ -185,10 +171,7 @@ inv_still g inv m i lo hi d =
 module _ (n : ℕ) (β t : Bool) (arms : ℕ → Stance) (i : ℕ) (e : arms i ≡ x1 t) (free : Free β arms t) where
   -- x1 t and x2 t look the same to the others
   look_back : (k : ℕ) (u : Bool) → T (has u (changed arms i (x2 t) k)) → T (has u (arms k)) × (T (choosing (changed arms i (x2 t) k)) → T (choosing (arms k)))
-  look_back k u =
-      by (λ x. T (has u x) → T (has u (arms k)) × (T (choosing x) → T (choosing (arms k)))) (eqb k i) (x2 t) (arms k)
-      (λ q h. (subst (λ y. T (has u (arms y))) (sym (eqb→eq k i q)) (subst (λ y. T (has u y)) (sym e) h), (λ l. absurd l)))
-      (λ d h. (h, λ l. l))
+  look_back k u = let r = eqb→eq k i in grind (arith, nat_tests)
 
   turn_other : (k : ℕ) (a : Stance) → arms k ≡ a → Own n β arms a → Own n (not t) (changed arms i (x2 t)) a
   turn_other k (waits s j p) q h = (

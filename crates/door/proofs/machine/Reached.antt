@@ -113,9 +113,6 @@ run_sound s n h [] = h
 run_sound s n h (c ∷ cs) = run_sound (after s c) n (after_sound s n h c) cs
 
 -- no call alters how many arms there are
-unless_n : (r : Option Refusal) (x y : State) → x.n ≡ y.n → (unless r x y).n ≡ y.n
-unless_n r x y e = grind arith
-
 after_n : (s : State) (c : Call) → (after s c).n ≡ s.n
 after_n s c = grind arith
 

@@ -3,6 +3,7 @@
 -- only the first exit step alters the bit, setting it to 1 - side.
 use Rattle.std.proofs.Common.{◌≡◌, ℕ, ◌+◌, ◌≤◌, Bool, true, false, cond, not, ◌&&◌, T, eqb, ◌≢◌, ◌⊎◌, sym, refl, ap, ◌∙◌, subst, inl, inr, ⊎_elim, arith, eqb→eq}
 use Rattle.std.proofs.lemmas.Bool.{cases_eq}
+use Rattle.std.proofs.lemmas.Bool.Decides.{nat_tests}
 use Rattle.door.specs.Tallies.{same_phase}
 use Rattle.door.specs.declared.position.Phase.{Phase}
 use Rattle.door.specs.declared.position.Phase.TheVariants as P
@@ -67,10 +68,7 @@ Own bit arms a = Unit {0}
 
 -- facts last while the bit does, and sides come only from it
 keep : (bit : Bool) (arms arms' : ℕ → Stage) → ((k : ℕ) (t : Bool) → T (has t (arms' k)) → T (has t (arms k)) ⊎ T (same t bit)) → (a : Stage) → Own bit arms a → Own bit arms' a
-keep bit arms arms' seen (inside t) h = λ k hk. ⊎_elim (h k) (λ y. same_sym (not t) bit y) (seen k (not t) hk)
-keep bit arms arms' seen (leaving t) h = λ k hk. ⊎_elim (h k) (λ y. same_sym (not t) bit y) (seen k (not t) hk)
-keep bit arms arms' seen (turned t) h = h
-keep bit arms arms' seen a h = tt
+keep bit arms arms' seen a h = grind (arith, seen)
 
 turn_other : (bit t : Bool) (arms arms' : ℕ → Stage) (i : ℕ) → arms i ≡ leaving t → Free bit arms t → (k : ℕ) (a : Stage) → arms k ≡ a → Own bit arms a → Own (not t) arms' a
 turn_other bit t arms arms' i e free k (inside s) q h = λ k' hk. sides_agree bit t s (λ o. free k (subst (λ y. T (has (not t) y)) (sym q) o)) (λ o. h i (subst (λ y. T (has (not s) y)) (sym e) (same_swap t s o)))
@@ -195,10 +193,7 @@ module _ (w b : ℕ) (m m' : Meaning) (i : ℕ) (c : Change m m' i) (own : Inv m
 
   -- who ends its doorway is the one that moves, so a resting arm rests on
   idle_stays : T (ends_doorway w m m') → T (at P.I (m.arms b)) → T (not (eqb b w)) → T (at P.I (m'.arms b))
-  idle_stays t d ne = ⊎_elim
-      (λ q. subst (λ y. T (at P.I y)) (sym (still b (λ z. ne_test b w ne (sym z ∙ q)))) d)
-      (λ d'. absurd ((two_phases (m.arms w)).0 (subst (λ y. T (at P.D (m.arms w) && at P.W y)) (still w d') t)))
-      (cases_eq i w)
+  idle_stays t d ne = let x = still b in let y = still w in grind (arith, nat_tests)
 
   was_waiting : (s : Bool) → T (not (ends_doorway w m m')) → m'.arms w ≡ waiting s → m.arms w ≡ waiting s
   was_waiting s d wait = ⊎_elim

@@ -9,12 +9,7 @@ use Rattle.door.proofs.rounds.Potential.{budget, place_rank, rank, rank_of, tota
 
 -- what the invariant says of each arm while one with side s waits
 pub fit_of : (g : Machine) (w : ℕ) (s : Bool) → T (has s (g.arms w)) → (a : Stance) → Own g.n g.group g.arms a → Fit g.group s a
-fit_of g w s h (x1 u) o = λ q. o w (move_side (g.arms w) s (not u) q h)
-  where
-    move_side : (a : Stance) (s u : Bool) → T (same u s) → T (has s a) → T (has u a)
-    move_side a s u q h = grind arith
-fit_of g w s h (x2 u) o = o
-fit_of g w s h a o = tt
+fit_of g w s h a o = grind arith
 
 rank_others : (e e' : Bool) (n : ℕ) (s : Bool) (a a' : Stance) (j : ℕ) (p : Place) (c : ℕ) → (T e' → T e) → (T e' → place_rank (has (not s) a') (flag a') p ≤ place_rank (has (not s) a) (flag a) p + c) →
     rank e' n s a' j p ≤ rank e n s a j p + c

@@ -45,10 +45,7 @@ step_free : (p : Phase) → T (not (same_phase p P.I) && not (same_phase p P.F))
 step_free p h = grind arith
 
 step_accepted : (s : State) (g : Machine) → Mirror s g → (i : ℕ) → 1 ≤ i → i ≤ s.n → T (may_step (g.arms i)) → T (accepted s (Step i))
-step_accepted s g mir i lo hi k =
-    let e : step_refusal (phase_at s i) ≡ None = step_free (phase_at s i) (subst (λ y. T (not (same_phase (phase_of y) P.I) && not (same_phase (phase_of y) P.F))) (sym (mir.shows i lo hi).stands) k) in
-    let r : refusal_of s (Step i) ≡ None = cond_on (is_arm s i) (step_refusal (phase_at s i)) _ (arm_is s i lo hi) ∙ e in
-    subst (λ x. T (no_refusal x)) (sym r) tt
+step_accepted s g mir i lo hi k = let x = (mir.shows i lo hi).stands in let y = arm_is s i lo hi in grind arith
 
 step_mirrored : (s : State) (g : Machine) → Mirror s g → Inv g → (i : ℕ) → 1 ≤ i → i ≤ s.n → T (may_step (g.arms i)) → ((m : Move) → T (allowed m (g.arms i)) → m ≡ step) → Mirror (after s (Step i)) (moved g step i)
 step_mirrored s g mir inv i lo hi k only = go (came s g mir inv (Step i))
@@ -84,9 +81,7 @@ module _ (u : ℕ) (sd : Bool) (n : ℕ) (ulo : 1 ≤ u) (uhi : u ≤ n) (k : �
     pub stays_out : GoesInside u s calls → ⊥
 
   not_inside : (s : State) (g : Machine) → Mirror s g → g.n ≡ n → Waiting sd (g.arms u) → (c : Call) (s₀ : State) → s ≡ after s₀ c → T (goes_inside u s₀ c) → ⊥
-  not_inside s g mir e v c s₀ q t =
-      let x = and_T (is_in P.W s₀ u) (is_in P.F (after s₀ c) u) (and_T (steps u s₀ c) (is_in P.W s₀ u && is_in P.F (after s₀ c) u) t).1 in
-      subst (λ y. T (at P.F y)) v.2 (subst T (phase_shown s g mir P.F u ulo (omega arith)) (subst (λ y. T (is_in P.F y u)) (sym q) x.1))
+  not_inside s g mir e v c s₀ q t = let x = phase_shown s g mir P.F u ulo (omega arith) in let y = v.2 in grind arith
 
   own_steps : (m : ℕ) (s : State) (g : Machine) → Barred s g → ((l : ℕ) → l ≢ u → T (at P.D (g.arms l)) → ⊥) → Vain m s
   own_steps zero s g b calm = record { calls = []; count = refl; alone = tt; stays_out = λ h. h }

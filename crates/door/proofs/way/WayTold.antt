@@ -76,7 +76,7 @@ module _ (s : State) (n : ℕ) (sound : Sound s n) (w : ℕ) (lo : 1 ≤ w) (hi 
       let x = some_find (bit (not sd)) s.arms s.n (subst (λ z. T (some_side z s.arms s.n)) other_is t) in
       let l : x.0 < n = let y = x.1 in let z = size in omega arith in
       opposite g.group sd q (same_sym g.group (not sd) (free (x.0 + 1) (subst T (shown_side x.0 l) x.2))))))
-      (λ d. T_or_left _ (not (some_side (1 - side_of (arm_at s w).side) s.arms s.n)) (subst (λ x. T (not x)) (sym same_told) d))
+      (λ d. let e = same_told in grind arith)
       (test (same g.group sd))
 
   barred_told : Barred g sd → T (has_way s w) → ⊥
