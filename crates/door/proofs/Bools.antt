@@ -25,9 +25,6 @@ opposite a b h k = grind arith
 pub differ : (a b : Bool) → T (not (same a b)) → T (same a (not b))
 differ a b h = grind arith
 
-pub same_other : (a b : Bool) → T (not (same a b)) → T (same (not a) b)
-same_other a b h = grind arith
-
 pub same_swap : (a b : Bool) → T (same (not a) b) → T (same (not b) a)
 same_swap a b h = grind arith
 

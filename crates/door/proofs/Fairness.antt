@@ -15,7 +15,7 @@ use Rattle.door.specs.declared.call.Call.TheVariants.{Way}
 use Rattle.door.specs.declared.position.Phase.{Phase}
 use Rattle.door.specs.declared.position.Phase.TheVariants as P
 use Rattle.door.specs.declared.refusal.Refusal.{Refusal}
-use Rattle.door.proofs.Bools.{same, same_sym, same_path, same_trans, opposite, differ, same_other, test, clash, and_T, cond_on}
+use Rattle.door.proofs.Bools.{same, same_sym, same_path, same_trans, opposite, differ, test, clash, and_T, cond_on}
 use Rattle.door.proofs.Rooms.{arms_few}
 use Rattle.door.proofs.machine.Machine.{Machine, side, has}
 use Rattle.door.proofs.machine.Invariant.{Free}
@@ -154,11 +154,7 @@ yes_is b = grind arith
 -- what way answers of a waiting arm, of a state that calls lead to: whether it goes inside is decided, so any origin will do
 decided : (w : ℕ) (s : State) (cs : List Call) → GoesInside w s cs ⊎ ¬ (GoesInside w s cs)
 decided w s [] = inr (λ h. h)
-decided w s (c ∷ cs) =
-    ⊎_elim
-    (λ t. inl (inl t))
-    (λ d. ⊎_elim (λ g. inl (inr g)) (λ n. inr (λ h. ⊎_elim (λ t. clash (goes_inside w s c) t d) n h)) (decided w (after s c) cs))
-    (test (goes_inside w s c))
+decided w s (c ∷ cs) = let x = decided w (after s c) cs in let y = test (goes_inside w s c) in grind arith
 
 pub tells : (s : State) (w : ℕ) → IsReached s → Tells s w (way_answer s w)
 tells s w reached wait =

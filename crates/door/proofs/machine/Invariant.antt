@@ -74,11 +74,8 @@ module _ (n : ℕ) (β : Bool) (arms : ℕ → Stance) (range : Ranged n arms) w
   past_j s j p past none q b h = let x = (past q b h).0 in grind (arith, nat_tests, none q)
 
   pub wait_own : (s : Bool) (j : ℕ) (p : Place) → Own n β arms (waits s j p) → Own n β arms (step_waiting n β (arms j) s j p)
-  wait_own s j W1 (lo, hi, past) =
-      by (Own n β arms) (same β s) (waits s j W2) (inside s false) (λ q. (lo, hi, past)) (λ d k h. differ β s d)
-  wait_own s j W2 (lo, hi, past) =
-      by (Own n β arms) (choosing (arms j)) (waits s j W2) (waits s j W3) (λ q. (lo, hi, past))
-      (λ d. (lo, hi, (λ q b h. ((past q b h).0, (λ l e. subst (λ x. T (not (choosing (arms x)))) (sym e) d)))))
+  wait_own s j W1 (lo, hi, past) = grind (arith, past)
+  wait_own s j W2 (lo, hi, past) = grind (arith, past)
   wait_own s j W3 (lo, hi, past) =
       by (Own n β arms) (same (mygroup (arms j)) s) (next n s j) (waits s j W4)
       (λ e. next_own s j lo hi (past_j s j W3 past (λ q h. no_side_grp (arms j) s e ((past q j h).1 tt refl) h)))
@@ -105,9 +102,6 @@ module _ (n : ℕ) (β : Bool) (arms : ℕ → Stance) (range : Ranged n arms) w
 abbrev pub Seen : Bool → Stance → Stance → Type 0
 Seen β a a' = (t : Bool) → T (has t a') → (T (has t a) × (T (choosing a') → T (choosing a))) ⊎ T (same t β)
 
-seen_same : (β : Bool) (a : Stance) → Seen β a a
-seen_same β a t h = inl (h, λ x. x)
-
 pub seen_act : (m : Move) (n : ℕ) (β : Bool) (arms : ℕ → Stance) (a : Stance) → Seen β a (act m n β arms a)
 seen_act m n β arms a t h = grind arith
 
@@ -124,11 +118,7 @@ pub turn_same : (m : Move) (β : Bool) (a : Stance) → T (not (turns m a)) → 
 turn_same m β a d = grind arith
 
 pub act_own : (m : Move) (n : ℕ) (β : Bool) (arms : ℕ → Stance) → Ranged n arms → 1 ≤ n → (a : Stance) → T (not (turns m a)) → Own n β arms a → Own n β arms (act m n β arms a)
-act_own begin n β arms range pos (idle g) d h = tt
-act_own step n β arms range pos a d h = step_own n β arms range pos a d h
-act_own admit n β arms range pos (inside s o) d h = h
-act_own leave n β arms range pos (inside s true) d h = h
-act_own m n β arms range pos a d h = h
+act_own m n β arms range pos a d h = let x = step_own n β arms range pos a in grind arith
 
 pub changed_seen : (β : Bool) (arms : ℕ → Stance) (i : ℕ) (a : Stance) → Seen β (arms i) a → (k : ℕ) → Seen β (arms k) (changed arms i a k)
 changed_seen β arms i a h k t x = grind (arith, nat_tests)

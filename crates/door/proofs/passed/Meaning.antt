@@ -71,10 +71,9 @@ keep : (bit : Bool) (arms arms' : ℕ → Stage) → ((k : ℕ) (t : Bool) → T
 keep bit arms arms' seen a h = grind (arith, seen)
 
 turn_other : (bit t : Bool) (arms arms' : ℕ → Stage) (i : ℕ) → arms i ≡ leaving t → Free bit arms t → (k : ℕ) (a : Stage) → arms k ≡ a → Own bit arms a → Own (not t) arms' a
-turn_other bit t arms arms' i e free k (inside s) q h = λ k' hk. sides_agree bit t s (λ o. free k (subst (λ y. T (has (not t) y)) (sym q) o)) (λ o. h i (subst (λ y. T (has (not s) y)) (sym e) (same_swap t s o)))
-turn_other bit t arms arms' i e free k (leaving s) q h = λ k' hk. sides_agree bit t s (λ o. free k (subst (λ y. T (has (not t) y)) (sym q) o)) (λ o. h i (subst (λ y. T (has (not s) y)) (sym e) (same_swap t s o)))
-turn_other bit t arms arms' i e free k (turned s) q h = sides_agree bit t s (λ o. free k (subst (λ y. T (has (not t) y)) (sym q) o)) (λ o. h)
-turn_other bit t arms arms' i e free k a q h = tt
+turn_other bit t arms arms' i e free k (inside s) q h = let x = free k in let y = h i in λ k' hk. grind arith
+turn_other bit t arms arms' i e free k (leaving s) q h = let x = free k in let y = h i in λ k' hk. grind arith
+turn_other bit t arms arms' i e free k a q h = let x = free k in grind arith
 
 module _ (bit : Bool) (arms arms' : ℕ → Stage) (i : ℕ) (frame : (k : ℕ) → k ≢ i → arms' k ≡ arms k) (own : (k : ℕ) → Own bit arms (arms k)) where
   own_still : (a : Stage) → arms' i ≡ a → ((t : Bool) → T (has t a) → T (has t (arms i)) ⊎ T (same t bit)) → Own bit arms a → (k : ℕ) → Own bit arms' (arms' k)

@@ -60,9 +60,6 @@ W_not_I p h = grind arith
 D_not_I : (p : Phase) → T (same_phase p P.D) → same_phase p P.I ≡ false
 D_not_I p h = grind arith
 
-capped : (x : ℕ) → x ≤ 2 → min (x + 1) tally_limit ≡ x + 1
-capped x h = omega arith
-
 module _ (w b n : ℕ) (wlo : 1 ≤ w) (whi : w ≤ n) (blo : 1 ≤ b) (bhi : b ≤ n) (few : n ≤ arm_limit) where
   -- a record whose row and notes tell k and o of arm b while it waits
   pub record Row (a : Arm) (k : ℕ) (o : Bool) : Type 0 where
@@ -165,8 +162,7 @@ module _ (w b n : ℕ) (wlo : 1 ≤ w) (whi : w ≤ n) (blo : 1 ≤ b) (bhi : b 
 
       other_kept : (Z N : Bool) → (T N → (i ≡ b) × T Z) → (T (not N) → i ≡ b → T Z → ⊥)
           → Row (cond Z (counted (i - 1) (w - 1) (arm_at s w)) (arm_at s w)) (cond N (k + 1) k) o
-      other_kept false true is_N not_N = absurd (is_N tt).1
-      other_kept false false is_N not_N = h
+      other_kept false N is_N not_N = let x = is_N in grind arith
       other_kept true N is_N not_N =
           let here : Bool = not (eqb (w - 1) (i - 1)) && past_doorway (phase_at s w) in
           by (λ a. Row a (cond N (k + 1) k) o) here (with_row (set (arm_at s w).row (i - 1) (min (get_or (arm_at s w).row (i - 1) 0 + 1) tally_limit)) (arm_at s w).notes (arm_at s w)) (arm_at s w)
@@ -175,11 +171,7 @@ module _ (w b n : ℕ) (wlo : 1 ≤ w) (whi : w ≤ n) (blo : 1 ≤ b) (bhi : b 
             count = other_count N (λ t. (is_N t).0) (λ d q. not_N d q tt);
             note = h.note;
           })
-          (λ d. record {
-            full = h.full;
-            count = λ t. absurd (clash here (T_and (not (eqb (w - 1) (i - 1))) (past_doorway (phase_at s w)) (test_ne (w - 1) (i - 1) (omega arith)) (waits_counts (phase_at s w) t)) d);
-            note = h.note;
-          })
+          (λ d. record { full = h.full; count = λ t. grind (arith, nat_tests); note = h.note })
 
       other_step : Row (arm_at (stepped i s) w)
           (cond (eqb i w && (is_in P.D s w && is_in P.W (stepped i s) w)) 0 (cond (eqb i b && (is_in P.W s b && is_in P.F (stepped i s) b)) (k + 1) k))

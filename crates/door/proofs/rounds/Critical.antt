@@ -1,9 +1,10 @@
 -- A critical arm: its next accepted step, admit or leave lowers the potential, and until then it stays critical or the potential falls.
 use Rattle.std.proofs.Common.{◌≡◌, ℕ, ◌+◌, ◌≤◌, Bool, true, false, cond, not, ◌&&◌, T, eqb, ◌≢◌, ◌⊎◌, sym, refl, ◌∙◌, subst, inl, inr, ⊎_elim, arith}
+use Rattle.std.proofs.lemmas.Bool.Decides.{nat_tests}
 use Rattle.std.proofs.lemmas.Bool.{cases_eq}
 use Rattle.door.specs.declared.position.Phase.TheVariants as P
 use Rattle.door.specs.declared.position.Place.{Place}
-use Rattle.door.proofs.Bools.{same, same_other, opposite, test, clash, none_of, and_T, T_and, by, ne_test, test_ne}
+use Rattle.door.proofs.Bools.{same, opposite, test, clash, none_of, and_T, T_and, by, ne_test, test_ne}
 use Rattle.door.proofs.machine.Machine.{Stance, idle, d1, d2, d3, d4, d5, waits, inside, x1, x2, at, has, choosing, outcome, step_arm, turn_step, Move, begin, step, admit, leave, act, turn, allowed, changed_other, Machine, moved_to, moved}
 use Rattle.door.proofs.machine.Invariant.{Own, Inv, seen_act, changed_seen}
 use Rattle.door.proofs.rounds.Waiting.{Waiting, Entry, only_steps, not_both, D_awake, has_awake, choosing_D, find, has_own, index_in, move_out}
@@ -121,22 +122,17 @@ module _ (g : Machine) (inv : Inv g) (w : ℕ) (s : Bool) (j : ℕ) (p : Place) 
   pub critical_exists : (b : ℕ) × (1 ≤ b) × (b ≤ g.n) × T (not (at P.I (g.arms b))) × Critical g w s b
   critical_exists = ⊎_elim
       (λ x. let y = and_T (not (eqb x.0 w)) (at P.D (g.arms x.0)) x.3 in (x.0, x.1, x.2, D_awake (g.arms x.0) y.1, door (ne_test x.0 w y.0) y.1))
-      (λ none. calm (λ k. ⊎_elim (λ c. absurd (busy none k c)) (λ d. d) (test (choosing (g.arms k)))))
+      (λ none. calm (λ k. let free = none k in let r = inv.awake k in grind (arith, nat_tests)))
       (find (λ k. not (eqb k w) && at P.D (g.arms k)) g.n)
     where
-      busy : ((k : ℕ) → 1 ≤ k → k ≤ g.n → T (not (not (eqb k w) && at P.D (g.arms k)))) → (k : ℕ) → T (choosing (g.arms k)) → ⊥
-      busy none k c =
-          let r = inv.awake k (choosing_awake (g.arms k) c) in
-          clash (not (eqb k w) && at P.D (g.arms k)) (T_and (not (eqb k w)) (at P.D (g.arms k)) (test_ne k w (λ q. wait_calm s j p (subst (λ y. T (choosing y)) e (subst (λ y. T (choosing (g.arms y))) q c)))) (choosing_D (g.arms k) c)) (none k r.0 r.1)
-
-      w_awake : T (not (at P.I (g.arms w)))
-      w_awake = subst (λ y. T (not (at P.I y))) (sym e) tt
+      awake : T (not (at P.I (g.arms w))) × (1 ≤ w) × (w ≤ g.n)
+      awake = let r = inv.awake w in grind arith
 
       calm : Quiet g.arms → (b : ℕ) × (1 ≤ b) × (b ≤ g.n) × T (not (at P.I (g.arms b))) × Critical g w s b
       calm quiet = ⊎_elim
-          (λ q. ⊎_elim
-          (λ x. (x.0, x.1, x.2, has_awake (g.arms x.0) (not s) x.3, foe quiet q x.3))
-          (λ none. (w, (inv.awake w w_awake).0, (inv.awake w w_awake).1, w_awake, self refl quiet (λ q k h. let r = inv.range k (not s) h in clash (has (not s) (g.arms k)) h (none k r.0 r.1))))
-          (find (λ k. has (not s) (g.arms k)) g.n))
-          (λ d. (w, (inv.awake w w_awake).0, (inv.awake w w_awake).1, w_awake, self refl quiet (λ q. absurd (clash (same g.group s) q d))))
-          (test (same g.group s))
+          (λ x. ⊎_elim
+          (λ q. (x.0, x.1, x.2, has_awake (g.arms x.0) (not s) x.3, foe quiet q x.3))
+          (λ d. (w, awake.1, awake.2, awake.0, self refl quiet (λ q. absurd (clash (same g.group s) q d))))
+          (test (same g.group s)))
+          (λ none. (w, awake.1, awake.2, awake.0, self refl quiet (λ q k h. let r = inv.range k (not s) h in clash (has (not s) (g.arms k)) h (none k r.0 r.1))))
+          (find (λ k. has (not s) (g.arms k)) g.n)

@@ -43,9 +43,7 @@ pub find : (f : ℕ → Bool) (n : ℕ) → ((k : ℕ) × (1 ≤ k) × (k ≤ n)
 find f zero = inr (λ k lo hi. absurd (omega arith))
 find f (suc n) = ⊎_elim
     (λ x. inl (suc n, omega arith, omega arith, x))
-    (λ x. ⊎_elim (λ y. inl (y.0, y.1, (let z = y.2 in omega arith), y.3))
-    (λ y. inr (λ k lo hi. ⊎_elim (λ q. subst (λ z. T (not (f z))) (sym q) x) (λ q. let q' : k ≢ suc n = q in y k lo (omega arith)) (cases_eq k (suc n))))
-    (find f n))
+    (λ x. ⊎_elim (λ y. inl (y.0, y.1, (let z = y.2 in omega arith), y.3)) (λ y. inr (λ k lo hi. let z = y k in let c = cases_eq k (suc n) in grind arith)) (find f n))
     (test (f (suc n)))
 
 -- a move by which w goes inside

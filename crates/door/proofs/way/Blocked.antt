@@ -41,9 +41,6 @@ doorway_may : (a : Stance) → T (at P.D a) → T (may_step a)
 doorway_may a h = grind arith
 
 -- a step that the machine allows is accepted
-step_free : (p : Phase) → T (not (same_phase p P.I) && not (same_phase p P.F)) → step_refusal p ≡ None
-step_free p h = grind arith
-
 step_accepted : (s : State) (g : Machine) → Mirror s g → (i : ℕ) → 1 ≤ i → i ≤ s.n → T (may_step (g.arms i)) → T (accepted s (Step i))
 step_accepted s g mir i lo hi k = let x = (mir.shows i lo hi).stands in let y = arm_is s i lo hi in grind arith
 

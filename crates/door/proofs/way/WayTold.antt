@@ -80,17 +80,16 @@ module _ (s : State) (n : ℕ) (sound : Sound s n) (w : ℕ) (lo : 1 ≤ w) (hi 
       (test (same g.group sd))
 
   barred_told : Barred g sd → T (has_way s w) → ⊥
-  barred_told (q, (k, foe)) t = ⊎_elim
-      (λ d. clash (same g.group sd) q (subst (λ x. T (not x)) same_told d))
-      (λ d.
+  barred_told (q, (k, foe)) t =
       let r = sound.keeps.range k (not sd) foe in
       let e = sound.arms_are in
       let l : k - 1 < n = let y = r.0 in let z = r.1 in omega arith in
       let back : (k - 1) + 1 ≡ k = let y = r.0 in omega arith in
       let here : T (has_side (bit (not sd)) (get_or s.arms (k - 1) no_arm).side) = subst T (sym (shown_side (k - 1) l)) (subst (λ j. T (has (not sd) (g.arms j))) (sym back) foe) in
-      clash (some_side (1 - side_of (arm_at s w).side) s.arms s.n)
-      (subst (λ z. T (some_side z s.arms s.n)) (sym other_is) (some_at (bit (not sd)) s.arms s.n (k - 1) (let z = size in omega arith) here)) d)
-      (or_T (not (eqb (bit_of s) (side_of (arm_at s w).side))) (not (some_side (1 - side_of (arm_at s w).side) s.arms s.n)) t)
+      let found : T (some_side (bit (not sd)) s.arms s.n) = some_at (bit (not sd)) s.arms s.n (k - 1) (let z = size in omega arith) here in
+      let x = same_told in
+      let y = other_is in
+      grind arith
 
   -- right of way is being free to go
   pub way_free : RightOfWay s w ↔ Free g.group g.arms sd
