@@ -5,6 +5,7 @@ use Rattle.door.specs.Limits.{visit_limit}
 use Rattle.door.specs.Tallies.{same_phase}
 use Rattle.door.specs.States.{State, is_arm}
 use Rattle.door.specs.Calls.{begin_refusal, step_refusal, admit_refusal, unless}
+use Rattle.door.specs.History.{no_refusal}
 use Rattle.door.specs.declared.position.Phase.{Phase}
 use Rattle.door.specs.declared.position.Phase.TheVariants as P
 use Rattle.door.specs.declared.refusal.Refusal.{Refusal}
@@ -15,6 +16,11 @@ use Rattle.door.proofs.Bools.{and_T}
 pub unless_both : {X : Type 0} (r : Option Refusal) (new old : X) (P : X → Type 0) → (r ≡ None → P new) → P old → P (unless r new old)
 unless_both None new old P h g = h refl
 unless_both (Some r) new old P h g = g
+
+-- the same, of what tells that too
+pub by_answer : {X : Type 0} (r : Option Refusal) (new old : X) (P : X → Bool → Type 0) → (r ≡ None → P new true) → P old false → P (unless r new old) (no_refusal r)
+by_answer None new old P h g = h refl
+by_answer (Some r) new old P h g = g
 
 -- it is an arm of the gate
 pub for_arm_none : (b : Bool) (r : Option Refusal) → cond b r (Some R.NoArm) ≡ None → r ≡ None

@@ -75,23 +75,7 @@ module _ (n : ℕ) (β : Bool) (arms : ℕ → Stance) (range : Ranged n arms) w
 
   pub wait_own : (s : Bool) (j : ℕ) (p : Place) → Own n β arms (waits s j p) → Own n β arms (step_waiting n β (arms j) s j p)
   wait_own s j W1 (lo, hi, past) = grind (arith, past)
-  wait_own s j W2 (lo, hi, past) = grind (arith, past)
-  wait_own s j W3 (lo, hi, past) =
-      by (Own n β arms) (same (mygroup (arms j)) s) (next n s j) (waits s j W4)
-      (λ e. next_own s j lo hi (past_j s j W3 past (λ q h. no_side_grp (arms j) s e ((past q j h).1 tt refl) h)))
-      (λ d. (lo, hi, past))
-  wait_own s j W4 (lo, hi, past) =
-      by (Own n β arms) (flag (arms j)) (waits s j W5) (next n s j)
-      (λ d. (lo, hi, past))
-      (λ e. next_own s j lo hi (past_j s j W4 past (λ q h. no_side_flag (arms j) (not s) e ((past q j h).1 tt refl) h)))
-  wait_own s j W5 (lo, hi, past) =
-      by (Own n β arms) (same β s) (waits s j W6) (next n s j)
-      (λ d. (lo, hi, past))
-      (λ e. next_own s j lo hi (λ q. absurd (clash (same β s) q e)))
-  wait_own s j W6 (lo, hi, past) =
-      by (Own n β arms) (same (mygroup (arms j)) s) (next n s j) (waits s j W4)
-      (λ e. next_own s j lo hi (past_j s j W6 past (λ q h. no_side_grp (arms j) s e ((past q j h).1 tt refl) h)))
-      (λ d. (lo, hi, past))
+  wait_own s j p (lo, hi, past) = grind (arith, nat_tests, range, past)
 
   -- a move of an arm not in X1, seen with the arms as they were
   step_own : 1 ≤ n → (a : Stance) → T (not (at_x1 a)) → Own n β arms a → Own n β arms (step_arm n β arms a)
@@ -169,13 +153,14 @@ module _ (n : ℕ) (β t : Bool) (arms : ℕ → Stance) (i : ℕ) (e : arms i �
     h.1,
     λ c b hb.
         let old = look_back b (not s) hb in
-        let c' = same_trans β (not t) s (free k (subst (λ y. T (has (not t) y)) (sym q) c)) c in
-        ((h.2 c' b old.0).0, λ l r. contra (choosing (arms b)) (choosing (changed arms i (x2 t) b)) old.1 ((h.2 c' b old.0).1 l r)),
+        let f = free k in
+        let c' : T (same β s) = grind arith in
+        let r = h.2 c' b old.0 in
+        grind arith,
   )
-  turn_other k (inside s o) q h = λ k' hk. sides_agree β t s (λ o. free k (subst (λ y. T (has (not t) y)) (sym q) o)) (λ o. h i (subst (λ y. T (has (not s) y)) (sym e) (same_swap t s o)))
-  turn_other k (x1 s) q h = λ k' hk. sides_agree β t s (λ o. free k (subst (λ y. T (has (not t) y)) (sym q) o)) (λ o. h i (subst (λ y. T (has (not s) y)) (sym e) (same_swap t s o)))
-  turn_other k (x2 s) q h = sides_agree β t s (λ o. free k (subst (λ y. T (has (not t) y)) (sym q) o)) (λ o. h)
-  turn_other k a q h = tt
+  turn_other k (inside s o) q h = λ k' hk. let f = free k in let r = h i in grind arith
+  turn_other k (x1 s) q h = λ k' hk. let f = free k in let r = h i in grind arith
+  turn_other k a q h = let f = free k in grind arith
 
 inv_turn : (g : Machine) → Inv g → (i : ℕ) (a : Stance) → g.arms i ≡ a → T (at_x1 a) → 1 ≤ i → i ≤ g.n →
     Inv (moved_to g (turn_step g.group a) i (step_arm g.n g.group g.arms a))
@@ -193,10 +178,8 @@ inv_turn g inv i a e x' lo hi = absurd x'
 
 -- every move keeps the invariant
 pub inv_moved : (g : Machine) → Inv g → (m : Move) (i : ℕ) → 1 ≤ i → i ≤ g.n → Inv (moved g m i)
-inv_moved g inv begin i lo hi = inv_still g inv begin i lo hi tt
-inv_moved g inv admit i lo hi = inv_still g inv admit i lo hi tt
-inv_moved g inv leave i lo hi = inv_still g inv leave i lo hi tt
 inv_moved g inv step i lo hi = ⊎_elim
     (λ x. inv_turn g inv i (g.arms i) refl x lo hi)
     (λ d. subst (λ b. Inv (moved_to g b i (step_arm g.n g.group g.arms (g.arms i)))) (sym (turn_same step g.group (g.arms i) d)) (inv_still g inv step i lo hi d))
     (test (at_x1 (g.arms i)))
+inv_moved g inv m i lo hi = inv_still g inv m i lo hi tt

@@ -19,7 +19,7 @@ use Rattle.door.specs.declared.position.Phase.TheVariants as P
 use Rattle.door.specs.declared.refusal.Refusal.{Refusal}
 use Rattle.door.proofs.Bools.{and_T, T_and}
 use Rattle.door.proofs.Rooms.{arms_few, arms_fit, length_cleared}
-use Rattle.door.proofs.Accepted.{for_arm_none, begin_none, step_none, admit_none, leave_none, arm_in, known_arm}
+use Rattle.door.proofs.Accepted.{for_arm_none, begin_none, step_none, admit_none, leave_none, arm_in, known_arm, by_answer}
 use Rattle.door.proofs.machine.Machine.{Stance, idle, position, at, out, Move, begin, step, admit, leave, is_step, is_begin, allowed, may_step, Machine, moved}
 use Rattle.door.proofs.machine.Invariant.{Inv, inv_moved}
 use Rattle.door.proofs.rounds.Waiting.{Waiting, Entry}
@@ -36,12 +36,7 @@ arm_is s i lo hi = grind (arith, nat_tests)
 
 module _ (s : State) (g : Machine) (mir : Mirror s g) (inv : Inv g) where
   by_refusal : (c : Call) → (refusal_of s c ≡ None → Came g (done s c) (λ b. move_of b c) (λ b. step_of b c)) → Came g (after s c) (λ b. moves b s c) (λ b. steps b s c)
-  by_refusal c f = go (refusal_of s c) f
-    where
-      go : (r : Option Refusal) → (r ≡ None → Came g (done s c) (λ b. move_of b c) (λ b. step_of b c))
-          → Came g (unless r (done s c) s) (λ b. no_refusal r && move_of b c) (λ b. no_refusal r && step_of b c)
-      go None f = f refl
-      go (Some x) f = stays mir (λ b. refl) (λ b. refl)
+  by_refusal c f = by_answer (refusal_of s c) (done s c) s (λ t y. Came g t (λ b. y && move_of b c) (λ b. y && step_of b c)) f (stays mir (λ b. refl) (λ b. refl))
 
   step_came : (i : ℕ) → refusal_of s (Step i) ≡ None → Came g (stepped i s) (λ b. eqb i b) (λ b. eqb i b)
   step_came i e =

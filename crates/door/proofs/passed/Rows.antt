@@ -25,7 +25,7 @@ use Rattle.door.specs.declared.refusal.Refusal.{Refusal}
 use Rattle.door.proofs.Bools.{clash, none_of, and_T, T_and, by, is_true, is_false, test_ne}
 use Rattle.door.proofs.Tables.{getD_each}
 use Rattle.door.proofs.machine.Mirror.{tallied_table}
-use Rattle.door.proofs.Accepted.{known_arm}
+use Rattle.door.proofs.Accepted.{known_arm, by_answer}
 use Rattle.door.proofs.passed.Past.{Past, past_call, past_bound}
 
 -- what the tally makes of the record at its own place, and of one at another place
@@ -47,9 +47,6 @@ tallied_other k p q arms j l ne = grind (arith, get_or-set_other, getD_each)
 -- an arm that waits after a step waited before it, or was in its doorway
 before_waiting : (n sd v : ℕ) (p : Position) → T (same_phase (phase_of (next_of n sd v p)) P.W) → T (same_phase (phase_of p) P.W) ⊎ T (same_phase (phase_of p) P.D)
 before_waiting n sd v p h = grind arith
-
-waits_counts : (p : Phase) → T (same_phase p P.W) → T (past_doorway p)
-waits_counts p h = grind arith
 
 W_not_F : (p : Phase) → T (same_phase p P.W) → T (same_phase p P.F) → ⊥
 W_not_F p h k = grind arith
@@ -111,10 +108,7 @@ module _ (w b n : ℕ) (wlo : 1 ≤ w) (whi : w ≤ n) (blo : 1 ≤ b) (bhi : b 
       after_own = phase_of (arm_after s w).position
 
       idle_noted : T (is_in P.D s w) → T (same_phase after_own P.W) → is_idle (get_or (base w wlo whi) (b - 1) no_arm) ≡ is_in P.I s b
-      idle_noted d t = ⊎_elim
-          (λ q. ap is_idle (ap (λ v. get_or (base w wlo whi) (v - 1) no_arm) q ∙ base_own w wlo whi) ∙ (W_not_I after_own t ∙ sym (ap (λ v. is_in P.I s v) q ∙ D_not_I (phase_at s w) d)))
-          (λ ne. ap is_idle (base_other w wlo whi b blo ne))
-          (cases_eq b w)
+      idle_noted d t = let x = base_own w wlo whi in let y = base_other w wlo whi b blo in let c = cases_eq b w in grind arith
 
       own_kept : (E X N : Bool) → (T E → T (is_in P.D s w) × T (same_phase after_own P.W)) → (T (not E) → T (is_in P.D s w) → T (same_phase after_own P.W) → ⊥)
           → (T X → T (same_phase after_own P.I)) → (T N → T (same_phase after_own P.F))
@@ -125,18 +119,10 @@ module _ (w b n : ℕ) (wlo : 1 ≤ w) (whi : w ≤ n) (blo : 1 ≤ b) (bhi : b 
         count = λ t. get_or-replicate arm_limit (b - 1) 0 0 (omega arith);
         note = λ t. get_or-map is_idle (base w wlo whi) (b - 1) no_arm false (let x = base_length w wlo whi in omega arith) ∙ idle_noted (is_E tt).0 (is_E tt).1;
       }
-      own_kept false true N is_E not_E is_X is_N = record {
-        full = length-replicate {A = ℕ} arm_limit 0;
-        count = λ t. absurd (subst T (W_not_I after_own t) (is_X tt));
-        note = λ t. absurd (subst T (W_not_I after_own t) (is_X tt));
-      }
-      own_kept false false true is_E not_E is_X is_N = record {
-        full = h.full;
-        count = λ t. absurd (W_not_F after_own t (is_N tt));
-        note = λ t. absurd (W_not_F after_own t (is_N tt));
-      }
+      own_kept false true N is_E not_E is_X is_N = record { full = length-replicate {A = ℕ} arm_limit 0; count = λ t. grind arith; note = λ t. grind arith }
+      own_kept false false true is_E not_E is_X is_N = record { full = h.full; count = λ t. grind arith; note = λ t. grind arith }
       own_kept false false false is_E not_E is_X is_N = kept (arm_at s w) (arm_after s w) k o refl refl
-          (λ t. ⊎_elim (λ x. x) (λ x. absurd (not_E tt x t)) (before_waiting s.n (side_of (arm_at s w).side) (value_read s.regs (access_at s w)) (arm_at s w).position t)) h
+          (λ t. let x = before_waiting s.n (side_of (arm_at s w).side) (value_read s.regs (access_at s w)) (arm_at s w).position t in let y = not_E tt in grind arith) h
 
       own_step : Row (arm_at (stepped w s) w)
           (cond (eqb w w && (is_in P.D s w && is_in P.W (stepped w s) w)) 0 (cond (eqb w b && (is_in P.W s b && is_in P.F (stepped w s) b)) (k + 1) k))
@@ -147,12 +133,7 @@ module _ (w b n : ℕ) (wlo : 1 ≤ w) (whi : w ≤ n) (blo : 1 ≤ b) (bhi : b 
           ap (λ x. x && (is_in P.D s w && is_in P.W (stepped w s) w)) (is_true (eqb w w) (eqb_refl w)) ∙ ap (λ z. is_in P.D s w && same_phase z P.W) (phase_own w wlo whi) in
           let e : arm_at (stepped w s) w ≡ own_row (w - 1) (phase_at s w) after_own (base w wlo whi) = tallied_own (w - 1) (phase_at s w) after_own (base w wlo whi) (let x = base_length w wlo whi in omega arith) in
           rw (E, e, base_own w wlo whi) (own_kept (is_in P.D s w && same_phase after_own P.W) (is_in P.X s w && same_phase after_own P.I) N
-          (and_T (is_in P.D s w) (same_phase after_own P.W))
-          (λ d x y. clash (is_in P.D s w && same_phase after_own P.W) (T_and (is_in P.D s w) (same_phase after_own P.W) x y) d)
-          (λ t. (and_T (is_in P.X s w) (same_phase after_own P.I) t).1)
-          (λ t.
-          let x = and_T (eqb w b) (is_in P.W s b && is_in P.F (stepped w s) b) t in
-          subst (λ z. T (same_phase z P.F)) (phase_own w wlo whi) (subst (λ v. T (is_in P.F (stepped w s) v)) (sym (eqb→eq w b x.0)) (and_T (is_in P.W s b) (is_in P.F (stepped w s) b) x.1).1)))
+          (λ t. grind arith) (λ d x y. grind arith) (λ t. grind arith) (λ t. let x = phase_own w wlo whi in grind (arith, nat_tests)))
 
     -- the step of another arm
     module _ (i : ℕ) (lo : 1 ≤ i) (hi : i ≤ n) (ne : i ≢ w) (k : ℕ) (o : Bool) (low : T (is_in P.W s w) → k ≤ 2) (h : Row (arm_at s w) k o) where
@@ -180,20 +161,12 @@ module _ (w b n : ℕ) (wlo : 1 ≤ w) (whi : w ≤ n) (blo : 1 ≤ b) (bhi : b 
           let q : Phase = phase_of (arm_after s i).position in
           let Z : Bool = is_in P.W s i && same_phase q P.F in
           let N : Bool = eqb i b && (is_in P.W s b && is_in P.F (stepped i s) b) in
-          let E : (eqb i w && (is_in P.D s w && is_in P.W (stepped i s) w)) ≡ false = ap (λ x. x && (is_in P.D s w && is_in P.W (stepped i s) w)) (is_false (eqb i w) (test_ne i w ne)) in
+          let E : (eqb i w && (is_in P.D s w && is_in P.W (stepped i s) w)) ≡ false = grind (arith, nat_tests) in
           let e : arm_at (stepped i s) w ≡ cond Z (counted (i - 1) (w - 1) (arm_at s w)) (arm_at s w) =
           tallied_other (i - 1) (phase_at s i) q (base i lo hi) (w - 1) (let x = base_length i lo hi in omega arith) (omega arith)
           ∙ ap (λ a. cond Z (counted (i - 1) (w - 1) a) a) (base_other i lo hi w wlo (λ z. ne (sym z))) in
-          rw (E, e) (other_kept Z N
-          (λ t.
-          let x = and_T (eqb i b) (is_in P.W s b && is_in P.F (stepped i s) b) t in
-          let y = and_T (is_in P.W s b) (is_in P.F (stepped i s) b) x.1 in
-          let ib : i ≡ b = eqb→eq i b x.0 in
-          (ib, T_and (is_in P.W s i) (same_phase q P.F) (subst (λ v. T (is_in P.W s v)) (sym ib) y.0) (subst (λ z. T (same_phase z P.F)) (phase_own i lo hi) (subst (λ v. T (is_in P.F (stepped i s) v)) (sym ib) y.1))))
-          (λ d ib z.
-          let y = and_T (is_in P.W s i) (same_phase q P.F) z in
-          clash N (T_and (eqb i b) (is_in P.W s b && is_in P.F (stepped i s) b) (subst (λ v. T (eqb i v)) ib (eqb_refl i))
-          (T_and (is_in P.W s b) (is_in P.F (stepped i s) b) (subst (λ v. T (is_in P.W s v)) ib y.0) (subst (λ v. T (is_in P.F (stepped i s) v)) ib (subst (λ z. T (same_phase z P.F)) (sym (phase_own i lo hi)) y.1)))) d))
+          let x = phase_own i lo hi in
+          rw (E, e) (other_kept Z N (λ t. grind (arith, nat_tests)) (λ d ib z. grind (arith, nat_tests)))
 
     -- any call
     abbrev Told : State → (ℕ → Bool) → ℕ → Bool → Type 0
@@ -202,11 +175,7 @@ module _ (w b n : ℕ) (wlo : 1 ≤ w) (whi : w ≤ n) (blo : 1 ≤ b) (bhi : b 
         (cond (st w && (is_in P.D s w && is_in P.W t w)) (is_in P.I s b) o)
 
     by_refusal : (c : Call) (k : ℕ) (o : Bool) → Row (arm_at s w) k o → (refusal_of s c ≡ None → Told (done s c) (λ v. step_of v c) k o) → Told (after s c) (λ v. no_refusal (refusal_of s c) && step_of v c) k o
-    by_refusal c k o h f = go (refusal_of s c) f
-      where
-        go : (x : Option Refusal) → (x ≡ None → Told (done s c) (λ v. step_of v c) k o) → Told (unless x (done s c) s) (λ v. no_refusal x && step_of v c) k o
-        go None f = f refl
-        go (Some x) f = h
+    by_refusal c k o h f = by_answer (refusal_of s c) (done s c) s (λ t y. Told t (λ v. y && step_of v c) k o) f h
 
     row_call : s.n ≡ n → (c : Call) (k : ℕ) (o : Bool) → (T (is_in P.W s w) → k ≤ 2) → Row (arm_at s w) k o
         → Row (arm_at (after s c) w) (cond (ends_doorway w s c) 0 (cond (goes_inside b s c) (k + 1) k)) (cond (ends_doorway w s c) (is_in P.I s b) o)

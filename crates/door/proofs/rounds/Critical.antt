@@ -7,7 +7,7 @@ use Rattle.door.specs.declared.position.Place.{Place}
 use Rattle.door.proofs.Bools.{same, opposite, test, clash, none_of, and_T, T_and, by, ne_test, test_ne}
 use Rattle.door.proofs.machine.Machine.{Stance, idle, d1, d2, d3, d4, d5, waits, inside, x1, x2, at, has, choosing, outcome, step_arm, turn_step, Move, begin, step, admit, leave, act, turn, allowed, changed_other, Machine, moved_to, moved}
 use Rattle.door.proofs.machine.Invariant.{Own, Inv, seen_act, changed_seen}
-use Rattle.door.proofs.rounds.Waiting.{Waiting, Entry, only_steps, not_both, D_awake, has_awake, choosing_D, find, has_own, index_in, move_out}
+use Rattle.door.proofs.rounds.Waiting.{Waiting, Entry, only_steps, not_both, D_awake, has_awake, find, has_own, index_in, move_out}
 use Rattle.door.proofs.rounds.Potential.{budget, Fit, budget_act, budget_act_critical, paid, turn_away, place_act, potential}
 use Rattle.door.proofs.rounds.Falls.{fit_of, potential_other, potential_own}
 
@@ -31,12 +31,6 @@ D_moves m a h k = grind arith
 
 wait_unpaid : (m : Move) (s : Bool) (j : ℕ) (p : Place) → T (paid m (waits s j p)) → ⊥
 wait_unpaid m s j p h = grind arith
-
-choosing_awake : (a : Stance) → T (choosing a) → T (not (at P.I a))
-choosing_awake a h = grind arith
-
-wait_calm : (s : Bool) (j : ℕ) (p : Place) → T (choosing (waits s j p)) → ⊥
-wait_calm s j p h = h
 
 module _ (g : Machine) (inv : Inv g) (w : ℕ) (s : Bool) (j : ℕ) (p : Place) (e : g.arms w ≡ waits s j p) where
   fit : (i : ℕ) → Fit g.group s (g.arms i)
@@ -74,9 +68,7 @@ module _ (g : Machine) (inv : Inv g) (w : ℕ) (s : Bool) (j : ℕ) (p : Place) 
   foe_holds b q h m a o = q
 
   quiet_after : (m : Move) (i : ℕ) → Quiet g.arms → T (not (paid m (g.arms i))) → Quiet (moved g m i).arms
-  quiet_after m i quiet d k =
-      by (λ x. T (not (choosing x))) (eqb k i) (act m g.n g.group g.arms (g.arms i)) (g.arms k)
-      (λ t. quiet_act m g.n g.group g.arms (g.arms i) (quiet i) d) (λ t. quiet k)
+  quiet_after m i quiet d k = let x = quiet_act m g.n g.group g.arms (g.arms i) (quiet i) d in let y = quiet k in grind (arith, nat_tests)
 
   -- the move of another arm than b
   pub critical_stays : (m : Move) (i : ℕ) → 1 ≤ i → i ≤ g.n → (b : ℕ) → i ≢ b → Critical g w s b → Waiting s ((moved g m i).arms w) →
@@ -93,7 +85,9 @@ module _ (g : Machine) (inv : Inv g) (w : ℕ) (s : Bool) (j : ℕ) (p : Place) 
       (λ d. inl (other_paid m i (λ z. ne (z ∙ sym x)) lo hi d))
       (λ d. inr (self x (quiet_after m i quiet d) (λ q k h.
       let q' = turn_away m g.group s (g.arms i) (fit i) q in
-      ⊎_elim (λ y. free q' k y.0) (λ y. opposite g.group s q' y) (changed_seen g.group g.arms i _ (seen_act m g.n g.group g.arms (g.arms i)) k (not s) h))))
+      let f = free q' k in
+      let r = changed_seen g.group g.arms i _ (seen_act m g.n g.group g.arms (g.arms i)) k (not s) h in
+      grind arith)))
       (test (paid m (g.arms i)))
 
   -- any allowed move: w goes inside, or waits on and the potential does not rise

@@ -31,9 +31,6 @@ D_awake a h = grind arith
 pub has_awake : (a : Stance) (t : Bool) → T (has t a) → T (not (at P.I a))
 has_awake a t h = grind arith
 
-pub choosing_D : (a : Stance) → T (choosing a) → T (at P.D a)
-choosing_D a h = grind arith
-
 -- an arm in its doorway may only step
 pub doorway_steps : (m : Move) (a : Stance) → T (at P.D a) → T (allowed m a) → m ≡ step
 doorway_steps m a h k = grind arith

@@ -1,5 +1,6 @@
 -- The bit that an arm read, found in the history, is its side.
 use Rattle.std.proofs.Common.{◌≡◌, ℕ, ◌≤◌, Bool, false, cond, not, ◌&&◌, T, eqb, ◌⊎◌, List, [], ◌∷◌, Some, sym, refl, ap, ◌∙◌, subst, inl, inr, ⊎_elim, arith, eqb→eq}
+use Rattle.std.proofs.lemmas.Bool.Decides.{nat_tests}
 use lib.Dec.{eqb_refl}
 use Rattle.std.proofs.lemmas.Bool.{cases_eq}
 use Rattle.door.specs.Positions.{group, phase_of, access_of, side_of}
@@ -44,7 +45,7 @@ module _ (w n : ℕ) (wlo : 1 ≤ w) (whi : w ≤ n) where
         (subst (λ y. T (same_phase (phase_of y) P.D && of_group (access_of w (side_of (arm_at s w).side) y))) position_is t)
 
     there : (x : Bool) → g.arms w ≡ d2 x → T (is_in P.D s w && of_group (access_at s w))
-    there x e = subst (λ y. T (same_phase (phase_of y) P.D && of_group (access_of w (side_of (arm_at s w).side) y))) (sym (position_is ∙ ap position e)) tt
+    there x e = let q = position_is in grind arith
 
     went : Came g (after s c) (λ b. moves b s c) (λ b. steps b s c) → Read (after s c) (cond (reads_group w s c) (register s group) v)
     went (stays mir' _ st) =
@@ -70,13 +71,12 @@ module _ (w n : ℕ) (wlo : 1 ≤ w) (whi : w ≤ n) where
             was.sound.mirror.group_is ∙ ap bit (sym (same_path u g.group h₂))
 
         on_read : T (not (reads_group w s c)) → Reads (moved g m i) v
-        on_read d u h = ⊎_elim
-            (λ q. ⊎_elim (was.reads u)
-            (λ x. absurd (clash (reads_group w s c)
-            (T_and (steps w s c) _ (subst T (sym (st w)) (T_and (is_step m) (eqb i w) x.0 (subst (λ j. T (eqb i j)) q (eqb_refl i)))) (there x.1.0 x.1.1)) d))
-            (has_act m g.n g.group g.arms (g.arms w) u (subst (λ y. T (has u y)) (ap (λ z. (moved g m z).arms w) q ∙ changed_same g.arms w _) h)))
-            (λ ne. was.reads u (subst (λ y. T (has u y)) (changed_other g.arms i _ w (λ z. ne (sym z))) h))
-            (cases_eq i w)
+        on_read d u h =
+            let a = has_act m g.n g.group g.arms (g.arms w) u in
+            let r = was.reads u in
+            let x = st w in
+            let y : (z : Bool) → g.arms w ≡ d2 z → T (is_in P.D s w && of_group (access_at s w)) = there in
+            grind (arith, nat_tests)
 
   pub read_run : (cs : List Call) (s : State) (v : ℕ) → Read s v → Read (run s cs) (latest_bit w s cs v)
   read_run [] s v h = h

@@ -7,7 +7,7 @@ use Rattle.door.specs.declared.position.Place.TheVariants.{W1, W2, W3, W4, W5, W
 use Rattle.door.proofs.Bools.{same, same_refl, same_sym, opposite, differ, test, clash, none_of, by, ne_test}
 use Rattle.door.proofs.machine.Machine.{Stance, idle, d1, d2, d3, d4, d5, waits, inside, x1, x2, at, has, choosing, mygroup, flag, next, step_waiting, outcome, step_arm, turn_step, Move, begin, step, admit, leave, act, changed, changed_same, changed_other, Machine, moved}
 use Rattle.door.proofs.machine.Invariant.{Free, Inv, far, Home, seen_act, changed_seen}
-use Rattle.door.proofs.rounds.Waiting.{choosing_D, has_own}
+use Rattle.door.proofs.rounds.Waiting.{has_own}
 use Rattle.door.proofs.rounds.Potential.{Fit, turn_away, free_rank}
 use Rattle.door.proofs.rounds.Falls.{fit_of}
 
