@@ -25,25 +25,15 @@ opposite a b h k = grind arith
 pub differ : (a b : Bool) → T (not (same a b)) → T (same a (not b))
 differ a b h = grind arith
 
-pub same_swap : (a b : Bool) → T (same (not a) b) → T (same (not b) a)
-same_swap a b h = grind arith
-
 pub test : (b : Bool) → T b ⊎ T (not b)
 test true = inl tt
 test false = inr tt
-
--- a bit does not differ from both of two opposite sides, so where it differs from both they are one
-pub sides_agree : (c a b : Bool) → (T (same (not a) b) → T (same c (not a))) → (T (same (not a) b) → T (same c (not b))) → T (same (not a) (not b))
-sides_agree c a b f g = grind arith
 
 pub clash : (b : Bool) → T b → T (not b) → ⊥
 clash b x y = grind arith
 
 pub none_of : (b : Bool) → (T b → ⊥) → T (not b)
 none_of b f = grind arith
-
-pub contra : (a b : Bool) → (T b → T a) → T (not a) → T (not b)
-contra a b f h = grind arith
 
 pub and_T : (a b : Bool) → T (a && b) → T a × T b
 and_T a b h = grind arith

@@ -32,9 +32,6 @@ use Rattle.door.proofs.rounds.Rounds.{all_go_inside}
 bit_once : (x y : Bool) → bit x ≡ bit y → T (same x y)
 bit_once x y e = grind arith
 
-some_once : (x y : ℕ) → Some x ≡ Some y → x ≡ y
-some_once x y e = cc
-
 module _ (high number wanted : ℕ) (regs : List ℕ) (past : List Call) where
   abbrev n : ℕ
   n = arms_for high (length regs) wanted
@@ -67,7 +64,10 @@ module _ (high number wanted : ℕ) (regs : List ℕ) (past : List Call) where
         let read = read_run w n lo hi past start 0 (record { sound = made_sound high number wanted regs some; reads = λ t h. absurd h }) in
         let z = sound.mirror.size in
         let e = sound.arms_are in
-        some_once _ _ (sym (read_side w n lo hi now (bit_read w start past) read t) ∙ ((sound.mirror.shows w lo (omega arith)).sided ∙ ap (λ a. as_bit (side a)) v.2))
+        let x = read_side w n lo hi now (bit_read w start past) read t in
+        let y = (sound.mirror.shows w lo (omega arith)).sided in
+        let q = v.2 in
+        grind arith
 
     -- two arms with the same side are free to go together; of two with different sides one only
     both_free : (t v : Bool) → T (same t v) → Free sound.machine.group sound.machine.arms t → Free sound.machine.group sound.machine.arms v
@@ -145,9 +145,6 @@ pub law : (s : State) → Law s
 law s high number wanted regs past e = subst (Fair (made high number wanted regs) past) e (fair high number wanted regs past)
 
 -- the answer of way
-way_accepted : (p : Phase) → T (same_phase p P.W) → way_refusal p ≡ None
-way_accepted p h = grind arith
-
 yes_is : (b : Bool) → (◌≡◌ {A = Result Bool Refusal} (Ok b) (Ok true)) ↔ T b
 yes_is b = grind arith
 
@@ -159,8 +156,7 @@ decided w s (c ∷ cs) = let x = decided w (after s c) cs in let y = test (goes_
 pub tells : (s : State) (w : ℕ) → IsReached s → Tells s w (way_answer s w)
 tells s w reached wait =
     let told : Origin s → (T (has_way s w) ↔ RightOfWay s w) = λ p. (law s p.high p.number p.wanted p.regs p.calls p.leads).told w wait in
-    let parts = and_T (is_arm s w) (is_in P.W s w) wait in
-    let here : refusal_of s (Way w) ≡ None = cond_on (is_arm s w) (way_refusal (phase_at s w)) _ parts.0 ∙ way_accepted (phase_at s w) parts.1 in
+    let here : refusal_of s (Way w) ≡ None = grind arith in
     let is : way_answer s w ≡ Ok (has_way s w) = ap (λ r. answered r (has_way s w)) here in
     let yes = yes_is (has_way s w) in (
       (λ a cs steps alone. ⊎_elim (λ g. g) (λ n. absurd (not_there reached (λ p. n ((told p).0 (yes.0 (sym is ∙ a)) cs steps alone)))) (decided w s cs)),

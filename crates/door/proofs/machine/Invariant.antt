@@ -5,7 +5,7 @@ use Rattle.std.proofs.lemmas.Bool.{cases_eq}
 use Rattle.door.specs.declared.position.Phase.TheVariants as P
 use Rattle.door.specs.declared.position.Place.{Place}
 use Rattle.door.specs.declared.position.Place.TheVariants.{W1, W2, W3, W4, W5, W6}
-use Rattle.door.proofs.Bools.{same, same_refl, same_sym, same_trans, opposite, differ, same_swap, sides_agree, test, clash, contra, by}
+use Rattle.door.proofs.Bools.{same, same_refl, same_sym, same_trans, opposite, differ, test, clash, by}
 use Rattle.door.proofs.machine.Machine.{Stance, idle, d1, d2, d3, d4, d5, waits, inside, x1, x2, at, has, choosing, mygroup, flag, next, step_waiting, outcome, step_arm, begin_arm, admit_arm, leave_arm, turn_step, Move, begin, step, admit, leave, act, turn, changed, Machine, moved_to, moved}
 
 -- a place past W2
@@ -53,26 +53,13 @@ pub record Inv (g : Machine) : Type 0 where
   pub range : Ranged g.n g.arms
   pub own : (k : ℕ) → Own g.n g.group g.arms (g.arms k)
 
--- what a register says
-pub no_side_grp : (a : Stance) (s : Bool) → T (same (mygroup a) s) → T (not (choosing a)) → T (has (not s) a) → ⊥
-no_side_grp a s g c h = grind arith
-
-pub no_side_flag : (a : Stance) (s : Bool) → T (not (flag a)) → T (not (choosing a)) → T (has s a) → ⊥
-no_side_flag a s f c h = grind arith
-
+-- before its first exit step
 abbrev pub at_x1 : Stance → Bool
 at_x1 (x1 s) = true
 at_x1 a = false
 
 -- the step of a waiting arm keeps what it has passed, and an arm goes inside only while it is free to
 module _ (n : ℕ) (β : Bool) (arms : ℕ → Stance) (range : Ranged n arms) where
-  next_own : (s : Bool) (j : ℕ) → 1 ≤ j → j ≤ n → (T (same β s) → (b : ℕ) → T (has (not s) (arms b)) → j + 1 ≤ b) → Own n β arms (next n s j)
-  next_own s j lo hi past = grind (arith, nat_tests, range, past)
-
-  -- arm j is not the one: what stands at or past j stands past it
-  past_j : (s : Bool) (j : ℕ) (p : Place) → Passed β arms s j p → (T (same β s) → T (has (not s) (arms j)) → ⊥) → T (same β s) → (b : ℕ) → T (has (not s) (arms b)) → j + 1 ≤ b
-  past_j s j p past none q b h = let x = (past q b h).0 in grind (arith, nat_tests, none q)
-
   pub wait_own : (s : Bool) (j : ℕ) (p : Place) → Own n β arms (waits s j p) → Own n β arms (step_waiting n β (arms j) s j p)
   wait_own s j W1 (lo, hi, past) = grind (arith, past)
   wait_own s j p (lo, hi, past) = grind (arith, nat_tests, range, past)

@@ -7,7 +7,7 @@ use Rattle.std.proofs.lemmas.Bool.Decides.{nat_tests}
 use Rattle.door.specs.Tallies.{same_phase}
 use Rattle.door.specs.declared.position.Phase.{Phase}
 use Rattle.door.specs.declared.position.Phase.TheVariants as P
-use Rattle.door.proofs.Bools.{same, same_refl, same_sym, same_trans, same_swap, sides_agree, and_T, by, ne_test}
+use Rattle.door.proofs.Bools.{same, same_refl, same_sym, same_trans, and_T, by, ne_test}
 
 -- an arm: I; D before it reads the bit; D with a side; W; F; X before and after the first exit step
 pub data Stage : Type 0 where
@@ -83,23 +83,15 @@ module _ (bit : Bool) (arms arms' : ℕ → Stage) (i : ℕ) (frame : (k : ℕ) 
       (cases_eq k i)
     where
       all : (k : ℕ) (t : Bool) → T (has t (arms' k)) → T (has t (arms k)) ⊎ T (same t bit)
-      all k t x = ⊎_elim
-          (λ q. subst (λ y. T (has t (arms y)) ⊎ T (same t bit)) (sym q) (seen t (subst (λ y. T (has t y)) (ap arms' q ∙ e) x)))
-          (λ ne. inl (subst (λ y. T (has t y)) (frame k ne) x))
-          (cases_eq k i)
+      all k t x = let f = frame k in let s = seen t in let c = cases_eq k i in grind arith
 
   own_goes : (a a' : Stage) (b' : Bool) → arms i ≡ a → arms' i ≡ a' → Goes bit arms a a' b' → (k : ℕ) → Own b' arms' (arms' k)
-  own_goes a a' b' e e' rests k = own_still a e' (λ t h. inl (subst (λ y. T (has t y)) (sym e) h)) (subst (Own bit arms) e (own i)) k
-  own_goes a a' b' e e' begins k = own_still coming e' (λ t h. absurd h) tt k
-  own_goes a a' b' e e' reads k = own_still (read bit) e' (λ t h. inr h) tt k
-  own_goes a a' b' e e' (ends {t = u}) k = own_still (waiting u) e' (λ t h. inl (subst (λ y. T (has t y)) (sym e) h)) tt k
   own_goes a a' b' e e' (enters {t = u} f) k = own_still (inside u) e' (λ t h. inl (subst (λ y. T (has t y)) (sym e) h)) f k
-  own_goes a a' b' e e' (leaves {t = u}) k = own_still (leaving u) e' (λ t h. inl (subst (λ y. T (has t y)) (sym e) h)) (subst (Own bit arms) e (own i)) k
   own_goes a a' b' e e' (turns {t = u}) k = ⊎_elim
       (λ q. subst (Own (not u) arms') (sym (ap arms' q ∙ e')) (same_refl (not u)))
       (λ ne. subst (Own (not u) arms') (sym (frame k ne)) (turn_other bit u arms arms' i e (subst (Own bit arms) e (own i)) k (arms k) refl (own k)))
       (cases_eq k i)
-  own_goes a a' b' e e' quits k = own_still resting e' (λ t h. absurd h) tt k
+  own_goes a a' b' e e' goes k = own_still a' e' (λ t h. grind arith) (let o = subst (Own bit arms) e (own i) in grind arith) k
 
 -- how often an arm can still get past one that waits with side s: e says that the bit is s
 abbrev pub left : Bool → Bool → Stage → ℕ
@@ -205,11 +197,10 @@ module _ (w b : ℕ) (m m' : Meaning) (i : ℕ) (c : Change m m' i) (own : Inv m
       × (T (goes_inside b m m') → left (same m'.bit s) s (m'.arms b) + 1 ≤ left (same m.bit s) s (m.arms b))
   left_change s old ne = ⊎_elim
       (λ q. left_goes m.bit m.arms w s old (m.arms b) (m'.arms b) m'.bit (goes_at b q) (own b))
-      (λ d. (
-        subst (λ y. left (same m'.bit s) s y ≤ left (same m.bit s) s (m.arms b)) (sym (still b d))
-            (left_falls (same m.bit s) (same m'.bit s) s (m.arms b) (away m.bit m.arms w s old (m.arms i) (m'.arms i) m'.bit c.goes (own i))),
-        (λ t. absurd ((two_phases (m.arms b)).1 (subst (λ y. T (at P.W (m.arms b) && at P.F y)) (still b d) t))),
-      ))
+      (λ d.
+      let x = left_falls (same m.bit s) (same m'.bit s) s (m.arms b) (away m.bit m.arms w s old (m.arms i) (m'.arms i) m'.bit c.goes (own i)) in
+      let y = still b d in
+      (rw y x, λ t. grind arith))
       (cases_eq i b)
 
   -- at most two entries past a waiting arm, and at most one if the arm was idle when that one ended its doorway
@@ -217,15 +208,9 @@ module _ (w b : ℕ) (m m' : Meaning) (i : ℕ) (c : Change m m' i) (own : Inv m
       → Counted w b m' (cond (ends_doorway w m m') 0 (cond (goes_inside b m m') (k + 1) k)) (cond (ends_doorway w m m') (at P.I (m.arms b)) o)
   count_change k o L = count (λ s. m.arms w ≡ waiting s) (λ s. m'.arms w ≡ waiting s) (remaining w b m) (remaining w b m')
       (ends_doorway w m m') (goes_inside b m m') (at P.I (m.arms b)) o k L
-      (λ s. by (λ x. x ≤ 2) (eqb b w) 2 (left (same m'.bit s) s (m'.arms b)) (λ q. omega arith) (λ q. left_high (same m'.bit s) s (m'.arms b)))
-      (λ t d s. by (λ x. x ≤ 1) (eqb b w) 2 (left (same m'.bit s) s (m'.arms b))
-      (λ q. absurd (doorway_awake (m.arms w) (m'.arms w) t (subst (λ y. T (at P.I (m.arms y))) (eqb→eq b w q) d)))
-      (λ q. left_idle (same m'.bit s) s (m'.arms b) (idle_stays t d q)))
+      (λ s. let x = left_high (same m'.bit s) s (m'.arms b) in grind arith)
+      (λ t d s. let x = left_idle (same m'.bit s) s (m'.arms b) in let y = idle_stays t d in grind (arith, nat_tests))
       (λ d s wait.
-      let old = was_waiting s d wait in (
-        old,
-        choose_le (eqb b w) 2 _ _ (λ ne. (left_change s old ne).0),
-        (λ t. choose_less (eqb b w) 2 _ _
-            (λ q. (and_T (at P.W (m.arms w)) false (subst (λ y. T (at P.W (m.arms w) && at P.F y)) wait (subst (λ y. T (goes_inside y m m')) (eqb→eq b w q) t))).1)
-            (λ ne. (left_change s old ne).1 t)),
-      ))
+      let old = was_waiting s d wait in
+      let x = left_change s old in
+      (old, grind arith, λ t. grind (arith, nat_tests)))

@@ -1,5 +1,6 @@
 -- How often an arm went inside past one that waits, over every history.
 use Rattle.std.proofs.Common.{◌≡◌, ℕ, ◌+◌, ◌≤◌, Bool, true, false, cond, ◌&&◌, T, eqb, List, [], ◌∷◌, sym, refl, ap, ◌∙◌, subst, ⊎_elim, arith}
+use Rattle.std.proofs.lemmas.Bool.Decides.{nat_tests}
 use lib.Dec.{eqb_refl}
 use Rattle.std.proofs.lemmas.Bool.{cases_eq}
 use Rattle.door.specs.Tallies.{same_phase}
@@ -26,18 +27,12 @@ phase_meant : (p : Phase) (a : Stance) → StageAt p (stage a) ≡ at p a
 phase_meant p a = ap (λ z. same_phase z p) (stage_phase a)
 
 waiting_steps : (m : Move) (a : Stance) → T (at P.W a) → T (allowed m a) → m ≡ step
-waiting_steps m a h k = let v = phase_waits a h in only_steps m v.0 v.1.0 v.1.1 (subst (λ y. T (allowed m y)) v.1.2 k)
+waiting_steps m a h k = grind arith
 
 -- a change from a phase in which an arm may only step is its own step
 changes : (p q : Phase) → ((a : Stance) → T (at p a && at q a) → ⊥) → ((m : Move) (a : Stance) → T (at p a) → T (allowed m a) → m ≡ step)
     → (g : Machine) (m : Move) (i : ℕ) → T (allowed m (g.arms i)) → (v : ℕ) → T (at p (g.arms v) && at q ((moved g m i).arms v)) → T (is_step m && eqb i v)
-changes p q apart only g m i k v h = ⊎_elim
-    (λ e.
-    let k' : T (allowed m (g.arms v)) = subst (λ y. T (allowed m (g.arms y))) e k in
-    let r = only m (g.arms v) (and_T (at p (g.arms v)) (at q ((moved g m i).arms v)) h).0 k' in
-    T_and (is_step m) (eqb i v) (subst (λ y. T (is_step y)) (sym r) tt) (subst (λ y. T (eqb i y)) e (eqb_refl i)))
-    (λ ne. absurd (apart (g.arms v) (subst (λ y. T (at p (g.arms v) && at q y)) (changed_other g.arms i _ v (λ z. ne (sym z))) h)))
-    (cases_eq i v)
+changes p q apart only g m i k v h = let f = apart (g.arms v) in let r = only m (g.arms v) in let c = cases_eq i v in grind (arith, nat_tests)
 
 D_or_W : (a : Stance) → T (at P.D a && at P.W a) → ⊥
 D_or_W a h = grind arith

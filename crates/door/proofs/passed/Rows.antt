@@ -48,15 +48,6 @@ tallied_other k p q arms j l ne = grind (arith, get_or-set_other, getD_each)
 before_waiting : (n sd v : ℕ) (p : Position) → T (same_phase (phase_of (next_of n sd v p)) P.W) → T (same_phase (phase_of p) P.W) ⊎ T (same_phase (phase_of p) P.D)
 before_waiting n sd v p h = grind arith
 
-W_not_F : (p : Phase) → T (same_phase p P.W) → T (same_phase p P.F) → ⊥
-W_not_F p h k = grind arith
-
-W_not_I : (p : Phase) → T (same_phase p P.W) → same_phase p P.I ≡ false
-W_not_I p h = grind arith
-
-D_not_I : (p : Phase) → T (same_phase p P.D) → same_phase p P.I ≡ false
-D_not_I p h = grind arith
-
 module _ (w b n : ℕ) (wlo : 1 ≤ w) (whi : w ≤ n) (blo : 1 ≤ b) (bhi : b ≤ n) (few : n ≤ arm_limit) where
   -- a record whose row and notes tell k and o of arm b while it waits
   pub record Row (a : Arm) (k : ℕ) (o : Bool) : Type 0 where

@@ -27,17 +27,13 @@ module _ (g : Machine) (w : ℕ) (s : Bool) (j : ℕ) (p : Place) (e : g.arms w 
       let arms' : ℕ → Stance = changed g.arms i a in
       let here : arms' w ≡ waits s j p = changed_other g.arms i a w (λ q. ne (sym q)) ∙ e in
       let r : rank E' g.n s (arms' j) j p ≤ rank E g.n s (g.arms j) j p + d = rank_others E E' g.n s (g.arms j) (arms' j) j p d away
-      (λ q. by (λ x. place_rank (has (not s) x) (flag x) p ≤ place_rank (has (not s) (g.arms j)) (flag (g.arms j)) p + d) (eqb j i) a (g.arms j)
-      (λ t. subst (λ y. place_rank (has (not s) a) (flag a) p ≤ place_rank (has (not s) (g.arms y)) (flag (g.arms y)) p + d) (sym (eqb→eq j i t)) (rise q))
-      (λ t. omega arith)) in
+      (λ q. let x = rise q in grind (arith, nat_tests)) in
       let r₁ : rank_of E' g.n s arms' (arms' w) ≡ rank E' g.n s (arms' j) j p = ap (rank_of E' g.n s arms') here in
       let r₂ : rank_of E g.n s g.arms (g.arms w) ≡ rank E g.n s (g.arms j) j p = ap (rank_of E g.n s g.arms) e in
       let t : total (mask E' s arms' w) g.n + c ≤ total (mask E s g.arms w) g.n = total_drop (mask E' s arms' w) (mask E s g.arms w) g.n c i
-      (λ k. by (λ x. cond (eqb k w) 0 (budget E' s x) ≤ cond (eqb k w) 0 (budget E s (g.arms k))) (eqb k i) a (g.arms k)
-      (λ q. mask_le (eqb k w) _ _ (subst (λ y. budget E' s a ≤ budget E s (g.arms y)) (sym (eqb→eq k i q)) (omega arith)))
-      (λ q. mask_le (eqb k w) _ _ (budget_falls E E' s (g.arms k) away)))
+      (λ k. let x = budget_falls E E' s (g.arms k) away in grind (arith, nat_tests))
       lo hi
-      (mask_off (eqb i w) _ _ c (test_ne i w ne) (subst (λ y. budget E' s y + c ≤ budget E s (g.arms i)) (sym (changed_same g.arms i a)) low)) in
+      (let x = low in grind (arith, nat_tests)) in
       omega arith
 
 rank_bound : (e : Bool) (n : ℕ) (s : Bool) (a : Stance) (j : ℕ) (p : Place) → 1 ≤ j → j ≤ n → rank e n s a j p ≤ 6 * n + 5
@@ -63,8 +59,7 @@ module _ (g : Machine) (w : ℕ) (s : Bool) (j : ℕ) (p : Place) (e : g.arms w 
       let r₁ : rank_of E g.n s arms' (arms' w) ≡ rank_of E g.n s arms' r = ap (rank_of E g.n s arms') (changed_same g.arms w r) in
       let r₂ : rank_of E g.n s g.arms (g.arms w) ≡ rank E g.n s (g.arms j) j p = ap (rank_of E g.n s g.arms) e in
       let t : total (mask E s arms' w) g.n ≤ total (mask E s g.arms w) g.n = total_le (mask E s arms' w) (mask E s g.arms w) g.n
-      (λ q. by (λ x. cond (eqb q w) 0 (budget E s x) ≤ cond (eqb q w) 0 (budget E s (g.arms q))) (eqb q w) r (g.arms q)
-      (λ y. mask_on (eqb q w) _ _ y) (λ y. omega arith)) in
+      (λ q. grind (arith, nat_tests)) in
       omega arith
 
   pub potential_bound : 1 ≤ j → j ≤ g.n → potential s g w ≤ 50 * g.n + 5
@@ -72,5 +67,5 @@ module _ (g : Machine) (w : ℕ) (s : Bool) (j : ℕ) (p : Place) (e : g.arms w 
       let E : Bool = same g.group s in
       let r₁ = rank_bound E g.n s (g.arms j) j p lo hi in
       let r₂ : rank_of E g.n s g.arms (g.arms w) ≡ rank E g.n s (g.arms j) j p = ap (rank_of E g.n s g.arms) e in
-      let t = total_bound (mask E s g.arms w) g.n 44 (λ k. by (λ x. x ≤ 44) (eqb k w) 0 (budget E s (g.arms k)) (λ q. omega arith) (λ q. budget_bound E s (g.arms k))) in
+      let t = total_bound (mask E s g.arms w) g.n 44 (λ k. let x = budget_bound E s (g.arms k) in grind arith) in
       omega arith

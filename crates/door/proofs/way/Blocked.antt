@@ -1,5 +1,6 @@
 -- An arm that is not free to go has no right of way: others end their doorways, then it steps 8 n times and waits on.
 use Rattle.std.proofs.Common.{◌≡◌, ℕ, zero, suc, ◌+◌, ◌*◌, ◌≤◌, Bool, true, false, cond, not, ◌&&◌, T, eqb, ◌≢◌, List, [], ◌∷◌, None, sym, refl, ap, ◌∙◌, subst, ⊎_elim, arith, eqb→eq}
+use Rattle.std.proofs.lemmas.Bool.Decides.{nat_tests}
 use lib.Dec.{eqb_refl}
 use Rattle.std.proofs.lemmas.Bool.{cases_eq}
 use Rattle.door.specs.Positions.{phase_of}
@@ -148,11 +149,9 @@ module _ (u : ℕ) (sd : Bool) (n : ℕ) (ulo : 1 ≤ u) (uhi : u ≤ n) (k : �
         foe = by (λ z. T (has (not sd) z)) (eqb k l) a' (g.arms k) (λ t. passes.1 (not sd) (subst (λ z. T (has (not sd) (g.arms z))) (eqb→eq k l t) b.foe)) (λ t. b.foe);
       } in
       let drop : all_ahead g' + 1 ≤ all_ahead g = total_drop (λ z. cond (eqb z u) 0 (ahead (g'.arms z))) (λ z. cond (eqb z u) 0 (ahead (g.arms z))) g.n 1 l
-      (λ z. by (λ c. cond (eqb z u) 0 (ahead c) ≤ cond (eqb z u) 0 (ahead (g.arms z))) (eqb z l) a' (g.arms z)
-      (λ t. mask_le (eqb z u) _ _ (subst (λ c. ahead a' ≤ ahead (g.arms c)) (sym (eqb→eq z l t)) (let f = passes.0 in omega arith)))
-      (λ t. omega arith))
+      (λ z. let f = passes.0 in grind (arith, nat_tests))
       x.1 x.2
-      (mask_off (eqb l u) _ _ 1 y.0 (subst (λ c. ahead c + 1 ≤ ahead (g.arms l)) (sym (changed_same g.arms l a')) passes.0)) in
+      (let f = passes.0 in grind (arith, nat_tests)) in
       let rest = end_doorways B m (after s (Step l)) g' barred (omega arith) in
       let not_own : T (steps u s (Step l)) → ⊥ = λ t. lne (eqb→eq l u (and_T (accepted s (Step l)) (eqb l u) t).1) in
       let zero_more = none_more (steps u s (Step l)) (is_false (steps u s (Step l)) (none_of (steps u s (Step l)) not_own)) in
