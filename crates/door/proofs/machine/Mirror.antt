@@ -219,18 +219,18 @@ module _ (s : State) (g : Machine) (mir : Mirror s g) (i : ℕ) (lo : 1 ≤ i) (
   step_mirror (idle x) o k h = absurd k
   step_mirror (d1 x) o k h = with_write (choosing_of i) 1 (λ k klo kne. omega arith) _ g.group (d2 x)
       (set_other (choosing_of i) 1 group (omega arith) ∙ mir.group_is)
-      (record { stands = refl; sided = refl; marked = h.marked; chooses = set_same (choosing_of i) 1 (omega arith) (omega arith); grouped = set_other (choosing_of i) 1 (mygroup_of i) (omega arith) ∙ h.grouped; flagged = set_other (choosing_of i) 1 (flag_of i) (omega arith) ∙ h.flagged })
+      (grind (arith, set_other, set_same))
   step_mirror (d2 x) o k h = with_none _ (d3 g.group x)
-      (record { stands = refl; sided = ap Some mir.group_is; marked = h.marked; chooses = h.chooses; grouped = h.grouped; flagged = h.flagged })
+      (let z = mir.group_is in grind arith)
   step_mirror (d3 u x) o k h = with_write (mygroup_of i) (bit u) (λ k klo kne. omega arith) _ g.group (d4 u)
       (set_other (mygroup_of i) (bit u) group (omega arith) ∙ mir.group_is)
-      (record { stands = refl; sided = refl; marked = h.marked; chooses = set_other (mygroup_of i) (bit u) (choosing_of i) (omega arith) ∙ h.chooses; grouped = set_same (mygroup_of i) (bit u) (omega arith) (bit_low u); flagged = set_other (mygroup_of i) (bit u) (flag_of i) (omega arith) ∙ h.flagged })
+      (grind (arith, set_other, set_same, bit_low))
   step_mirror (d4 u) o k h = with_write (flag_of i) 1 (λ k klo kne. omega arith) _ g.group (d5 u)
       (set_other (flag_of i) 1 group (omega arith) ∙ mir.group_is)
-      (record { stands = refl; sided = refl; marked = h.marked; chooses = set_other (flag_of i) 1 (choosing_of i) (omega arith) ∙ h.chooses; grouped = set_other (flag_of i) 1 (mygroup_of i) (omega arith) ∙ h.grouped; flagged = set_same (flag_of i) 1 (omega arith) (omega arith) })
+      (grind (arith, set_other, set_same))
   step_mirror (d5 u) o k h = with_write (choosing_of i) 0 (λ k klo kne. omega arith) _ g.group (waits u 1 W1)
       (set_other (choosing_of i) 0 group (omega arith) ∙ mir.group_is)
-      (record { stands = refl; sided = refl; marked = h.marked; chooses = set_same (choosing_of i) 0 (omega arith) (omega arith); grouped = set_other (choosing_of i) 0 (mygroup_of i) (omega arith) ∙ h.grouped; flagged = set_other (choosing_of i) 0 (flag_of i) (omega arith) ∙ h.flagged })
+      (grind (arith, set_other, set_same))
   step_mirror (waits u j W1) o k h = wait_mirror u j W1 _ mir.group_is h
   step_mirror (waits u j W2) o k h = let z = mir.size in wait_mirror u j W2 _ (mir.shows j o.0 (let y = o.1 in omega arith)).chooses h
   step_mirror (waits u j W3) o k h = let z = mir.size in wait_mirror u j W3 _ (mir.shows j o.0 (let y = o.1 in omega arith)).grouped h
@@ -240,20 +240,20 @@ module _ (s : State) (g : Machine) (mir : Mirror s g) (i : ℕ) (lo : 1 ≤ i) (
   step_mirror (inside u x) o k h = absurd k
   step_mirror (x1 u) o k h = with_write group (1 - bit u) (λ k klo kne. omega arith) _ (not u) (x2 u)
       (set_same group (1 - bit u) (omega arith) (omega arith) ∙ bit_not u)
-      (record { stands = refl; sided = refl; marked = h.marked; chooses = set_other group (1 - bit u) (choosing_of i) (omega arith) ∙ h.chooses; grouped = set_other group (1 - bit u) (mygroup_of i) (omega arith) ∙ h.grouped; flagged = set_other group (1 - bit u) (flag_of i) (omega arith) ∙ h.flagged })
+      (grind (arith, set_other, set_same))
   step_mirror (x2 u) o k h = with_write (flag_of i) 0 (λ k klo kne. omega arith) _ g.group (idle u)
       (set_other (flag_of i) 0 group (omega arith) ∙ mir.group_is)
-      (record { stands = refl; sided = refl; marked = h.marked; chooses = set_other (flag_of i) 0 (choosing_of i) (omega arith) ∙ h.chooses; grouped = set_other (flag_of i) 0 (mygroup_of i) (omega arith) ∙ h.grouped; flagged = set_same (flag_of i) 0 (omega arith) (omega arith) })
+      (grind (arith, set_other, set_same))
 
   -- the calls without an access
   pub begin_mirror : (v : ℕ) (a : Stance) → T (at P.I a) → Shown s i a → Mirror (with_arm i (with_visit (Doorway D1) v (arm_at s i).out (arm_at s i)) s) (moved_to g g.group i (begin_arm a))
-  begin_mirror v (idle x) k h = with_none _ (d1 x) (record { stands = refl; sided = h.sided; marked = h.marked; chooses = h.chooses; grouped = h.grouped; flagged = h.flagged })
+  begin_mirror v (idle x) k h = with_none _ (d1 x) (grind arith)
   begin_mirror v a k h = absurd k
 
   pub admit_mirror : (a : Stance) → T (at P.F a) → Shown s i a → Mirror (with_arm i (with_visit (arm_at s i).position (arm_at s i).visits true (arm_at s i)) s) (moved_to g g.group i (admit_arm a))
-  admit_mirror (inside u x) k h = with_none _ (inside u true) (record { stands = h.stands; sided = h.sided; marked = refl; chooses = h.chooses; grouped = h.grouped; flagged = h.flagged })
+  admit_mirror (inside u x) k h = with_none _ (inside u true) (grind arith)
   admit_mirror a k h = absurd k
 
   pub leave_mirror : (a : Stance) → T (out a) → Shown s i a → Mirror (with_arm i (with_visit (Leaving X1) (arm_at s i).visits false (arm_at s i)) s) (moved_to g g.group i (leave_arm a))
-  leave_mirror (inside u true) k h = with_none _ (x1 u) (record { stands = refl; sided = h.sided; marked = refl; chooses = h.chooses; grouped = h.grouped; flagged = h.flagged })
+  leave_mirror (inside u true) k h = with_none _ (x1 u) (grind arith)
   leave_mirror a k h = absurd k

@@ -145,19 +145,6 @@ ends_doorway w m m' = at P.D (m.arms w) && at P.W (m'.arms w)
 abbrev pub goes_inside : ℕ → Meaning → Meaning → Bool
 goes_inside b m m' = at P.W (m.arms b) && at P.F (m'.arms b)
 
-two_phases : (a : Stage) → (T (at P.D a && at P.W a) → ⊥) × (T (at P.W a && at P.F a) → ⊥)
-two_phases a = grind arith
-
-doorway_awake : (a a' : Stage) → T (at P.D a && at P.W a') → T (at P.I a) → ⊥
-doorway_awake a a' t d = grind arith
-
--- a choice that both sides make
-choose_le : (t : Bool) (z x y : ℕ) → (T (not t) → x ≤ y) → cond t z x ≤ cond t z y
-choose_le t z x y h = grind arith
-
-choose_less : (t : Bool) (z x y : ℕ) → (T t → ⊥) → (T (not t) → x + 1 ≤ y) → cond t z x + 1 ≤ cond t z y
-choose_less t z x y f h = grind arith
-
 -- the count since w ended its doorway, by whether it ends now and whether the other goes inside now: rem is what may still come
 count : (W W' : Bool → Type 0) (rem rem' : Bool → ℕ) (E N d o : Bool) (k : ℕ) →
     ((s : Bool) → W s → (k + rem s ≤ 2) × (T o → k + rem s ≤ 1)) →

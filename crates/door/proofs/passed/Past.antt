@@ -120,6 +120,5 @@ none_itself w n lo hi s k o past wait =
     let g : Machine = past.sound.machine in
     let e = past.sound.arms_are in
     let v = phase_waits (g.arms w) (subst T (phase_shown s g past.sound.mirror P.W w lo (omega arith)) wait) in
-    let all = cond_on (eqb w w) 2 (left (same g.group v.0) v.0 (stage (g.arms w))) (eqb_refl w) in
     let L = (past.counted v.0 (ap stage v.1.2)).0 in
-    omega arith
+    grind (arith, nat_tests)

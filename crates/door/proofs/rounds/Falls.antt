@@ -5,7 +5,7 @@ use Rattle.door.specs.declared.position.Place.{Place}
 use Rattle.door.proofs.Bools.{same, by, test_ne}
 use Rattle.door.proofs.machine.Machine.{Stance, idle, d1, d2, d3, d4, d5, waits, inside, x1, x2, has, choosing, flag, step_waiting, changed, changed_same, changed_other, Machine, moved_to}
 use Rattle.door.proofs.machine.Invariant.{Own}
-use Rattle.door.proofs.rounds.Potential.{budget, place_rank, rank, rank_of, total, total_le, total_drop, total_bound, budget_bound, Fit, budget_falls, keeps_look, wait_rank, mask, potential, mask_on, mask_off, mask_le, free_rank}
+use Rattle.door.proofs.rounds.Potential.{budget, place_rank, rank, rank_of, total, total_le, total_drop, total_bound, budget_bound, Fit, budget_falls, keeps_look, wait_rank, mask, potential, free_rank}
 
 -- what the invariant says of each arm while one with side s waits
 pub fit_of : (g : Machine) (w : ℕ) (s : Bool) → T (has s (g.arms w)) → (a : Stance) → Own g.n g.group g.arms a → Fit g.group s a

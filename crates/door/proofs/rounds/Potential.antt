@@ -124,12 +124,3 @@ mask e s arms w k = cond (eqb k w) 0 (budget e s (arms k))
 
 abbrev pub potential : Bool → Machine → ℕ → ℕ
 potential s g w = rank_of (same g.group s) g.n s g.arms (g.arms w) + total (mask (same g.group s) s g.arms w) g.n
-
-pub mask_on : (b : Bool) (x y : ℕ) → T b → cond b 0 x ≤ y
-mask_on b x y h = grind arith
-
-pub mask_off : (b : Bool) (x y c : ℕ) → T (not b) → x + c ≤ y → cond b 0 x + c ≤ cond b 0 y
-mask_off b x y c h l = grind arith
-
-pub mask_le : (b : Bool) (x y : ℕ) → x ≤ y → cond b 0 x ≤ cond b 0 y
-mask_le b x y l = grind arith

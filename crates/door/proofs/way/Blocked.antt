@@ -16,11 +16,10 @@ use Rattle.door.proofs.Bools.{same, same_sym, opposite, clash, none_of, and_T, T
 use Rattle.door.proofs.machine.Machine.{Stance, idle, d1, d2, d3, d4, d5, waits, inside, x1, x2, at, has, step_arm, turn_step, Move, step, is_step, allowed, may_step, changed_same, changed_other, Machine, moved}
 use Rattle.door.proofs.machine.Invariant.{Inv, inv_moved}
 use Rattle.door.proofs.rounds.Waiting.{Waiting, only_steps, doorway_steps, not_both, D_awake, find, has_own, other_waits, own_out, own_free}
-use Rattle.door.proofs.rounds.Potential.{total, total_drop, mask_le, mask_off}
+use Rattle.door.proofs.rounds.Potential.{total, total_drop}
 use Rattle.door.proofs.machine.Mirror.{Mirror}
 use Rattle.door.proofs.Accepted.{arm_in}
 use Rattle.door.proofs.machine.Reached.{Came, stays, goes, came, arm_is, phase_shown, Sound}
-use Rattle.door.proofs.way.HasWay.{none_more}
 
 -- how many steps of its doorway an arm has before it
 abbrev ahead : Stance → ℕ
@@ -57,9 +56,6 @@ step_mirrored s g mir inv i lo hi k only = go (came s g mir inv (Step i))
         let q : l ≡ i = eqb→eq l i (and_T (is_step m) (eqb l i) (subst T (st i) it)).1 in
         let r : m ≡ step = only m (subst (λ y. T (allowed m (g.arms y))) q k') in
         subst (λ y. Mirror (after s (Step i)) (moved g step y)) q (subst (λ y. Mirror (after s (Step i)) (moved g y l)) r mir')
-
-one_step : (b : Bool) → T b → ◌≡◌ {A = ℕ} (cond b 1 0) 1
-one_step b h = grind arith
 
 module _ (u : ℕ) (sd : Bool) (n : ℕ) (ulo : 1 ≤ u) (uhi : u ≤ n) (k : ℕ) where
   -- u waits, the group is its side, and arm k has the other side
@@ -105,7 +101,8 @@ module _ (u : ℕ) (sd : Bool) (n : ℕ) (ulo : 1 ≤ u) (uhi : u ≤ n) (k : �
         foe = subst (λ y. T (has (not sd) y)) (sym (changed_other g.arms u _ k ne)) b.foe;
       } in
       let rest = own_steps m (after s (Step u)) g' barred (λ l lne x. calm l lne (subst (λ y. T (at P.D y)) (changed_other g.arms u _ l lne) x)) in
-      let one = one_step (steps u s (Step u)) (T_and (accepted s (Step u)) (eqb u u) (step_accepted s g mir u ulo hi may) (eqb_refl u)) in
+      let accepts = step_accepted s g mir u ulo hi may in
+      let one : ◌≡◌ {A = ℕ} (cond (steps u s (Step u)) 1 0) 1 = grind (arith, nat_tests) in
       record {
         calls = Step u ∷ rest.calls;
         count = let x = rest.count in omega arith;
@@ -154,10 +151,9 @@ module _ (u : ℕ) (sd : Bool) (n : ℕ) (ulo : 1 ≤ u) (uhi : u ≤ n) (k : �
       (let f = passes.0 in grind (arith, nat_tests)) in
       let rest = end_doorways B m (after s (Step l)) g' barred (omega arith) in
       let not_own : T (steps u s (Step l)) → ⊥ = λ t. lne (eqb→eq l u (and_T (accepted s (Step l)) (eqb l u) t).1) in
-      let zero_more = none_more (steps u s (Step l)) (is_false (steps u s (Step l)) (none_of (steps u s (Step l)) not_own)) in
       record {
         calls = Step l ∷ rest.calls;
-        count = let z = rest.count in omega arith;
+        count = let z = rest.count in grind arith;
         alone = ((λ t. absurd (not_own t)), rest.alone);
         stays_out = λ z. ⊎_elim {B = GoesInside u (after s (Step l)) rest.calls} (not_inside (after s (Step l)) g' mir' e wait' (Step l) s refl) rest.stays_out z;
       })
