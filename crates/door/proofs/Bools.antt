@@ -1,5 +1,5 @@
 -- Tests on bits, and what they say.
-use Rattle.std.proofs.Common.{◌≡◌, ℕ, Bool, true, false, cond, not, ◌&&◌, ◌||◌, T, eqb, ◌≢◌, ◌⊎◌, refl, inl, inr, arith}
+use Rattle.std.proofs.Common.{◌≡◌, ℕ, Bool, true, false, cond, not, ◌&&◌, ◌||◌, T, eqb, ◌≢◌, ◌⊎◌, inl, inr, arith}
 use Rattle.std.proofs.lemmas.Bool.Decides.{nat_tests}
 
 -- two bits are the same
@@ -54,9 +54,6 @@ T_or_right a b h = grind arith
 pub by : {A : Type 0} (P : A → Type 0) (b : Bool) (x y : A) → (T b → P x) → (T (not b) → P y) → P (cond b x y)
 by P true x y f g = f tt
 by P false x y f g = g tt
-
-pub cond_on : {A : Type 0} (b : Bool) (x y : A) → T b → cond b x y ≡ x
-cond_on b x y h = grind arith
 
 pub is_true : (b : Bool) → T b → b ≡ true
 is_true b h = grind arith

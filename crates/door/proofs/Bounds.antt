@@ -1,14 +1,14 @@
 -- A gate's state stays within its bounds, whatever is called.
-use Rattle.std.proofs.Common.{◌≡◌, ℕ, zero, suc, ◌+◌, ◌-◌, ◌*◌, ◌≤◌, Bool, true, false, not, ◌&&◌, eqb, List, [], ◌∷◌, length, get_or, set, replicate, Option, sym, ap, ◌∙◌, subst, inl, inr, arith}
+use Rattle.std.proofs.Common.{ℕ, zero, suc, ◌+◌, ◌-◌, ◌≤◌, Bool, true, false, not, ◌&&◌, eqb, List, [], ◌∷◌, length, get_or, set, replicate, Option, arith}
 use Rattle.std.proofs.lemmas.List.{get_or-set_same, get_or-set_other, set_past, get_or-replicate, get_or_past, length-replicate}
-use Rattle.std.proofs.lemmas.Bool.{cond_both, cases_eq, cases_lt, cond-false}
+use Rattle.std.proofs.lemmas.Bool.{cond_both}
 use Rattle.std.proofs.lemmas.Bool.Decides.{nat_tests}
-use Rattle.bank.specs.Registers.{written, can_hold}
+use Rattle.bank.specs.Registers.{written}
 use Rattle.door.specs.Limits.{arm_limit, visit_limit, tally_limit}
 use Rattle.door.specs.Positions.{group, access_of, regs_after, value_read, side_after, side_of, phase_of}
 use Rattle.door.specs.Arms.{fresh, no_arm}
 use Rattle.door.specs.Tallies.{with_row, counted, each, same_phase, past_doorway, row_started, row_cleared, tallied}
-use Rattle.door.specs.Making.{room, arms_for, made_regs, cleared}
+use Rattle.door.specs.Making.{arms_for, made_regs}
 use Rattle.door.specs.States.{State, made, arm_at, is_arm, phase_at, with_arm}
 use Rattle.door.specs.declared.call.Call.{Call}
 use Rattle.door.specs.declared.call.Call.TheVariants.{Begin as begin, Step as step, Admit as admit, Confirm as confirm, Leave as leave, Look as look, Tally as tally, Way as way}
@@ -16,12 +16,12 @@ use Rattle.door.specs.Calls.{refusal_of, begin_refusal, step_refusal, done, afte
 use Rattle.door.specs.declared.access.Access.{Access}
 use Rattle.door.specs.declared.access.Access.TheVariants.{Nothing, Read, Write}
 use Rattle.door.specs.declared.arm.Arm.{Arm}
-use Rattle.door.specs.declared.position.Doorway.TheVariants.{D1, D2, D3, D4, D5}
-use Rattle.door.specs.declared.position.Exit.TheVariants.{X1, X2}
+use Rattle.door.specs.declared.position.Doorway.TheVariants.{D1}
+use Rattle.door.specs.declared.position.Exit.TheVariants.{X1}
 use Rattle.door.specs.declared.position.Phase.{Phase}
 use Rattle.door.specs.declared.position.Phase.TheVariants as P
 use Rattle.door.specs.declared.position.Position.{Position}
-use Rattle.door.specs.declared.position.Position.TheVariants.{Idle, Doorway, Waiting, Inside, Leaving}
+use Rattle.door.specs.declared.position.Position.TheVariants.{Doorway, Leaving}
 use Rattle.door.proofs.Accepted.{unless_both, for_arm_none, begin_none, known_arm}
 use Rattle.door.proofs.Rooms.{arms_few}
 

@@ -1,26 +1,24 @@
 -- The law of the gate: each of its parts for every making and every list of calls.
-use Rattle.std.proofs.Common.{◌≡◌, ℕ, ◌+◌, ◌-◌, ◌*◌, ◌≤◌, Bool, true, false, not, T, ◌↔◌, ◌⊎◌, List, [], ◌∷◌, length, Some, None, Ok, Result, sym, refl, ap, ◌∙◌, subst, inl, inr, ⊎_elim, arith}
+use Rattle.std.proofs.Common.{◌≡◌, ℕ, ◌+◌, ◌-◌, ◌*◌, ◌≤◌, Bool, true, false, not, T, ◌↔◌, ◌⊎◌, List, [], ◌∷◌, length, None, Ok, Result, sym, ap, ◌∙◌, subst, inr, ⊎_elim, arith}
 use Rattle.std.proofs.lemmas.Grind.{not_there}
 use Rattle.std.proofs.lemmas.List.{get_or-replicate, length-replicate}
 use Rattle.door.specs.Limits.{arm_limit}
 use Rattle.door.specs.Making.{arms_for}
 use Rattle.door.specs.Arms.{fresh, no_arm}
-use Rattle.door.specs.States.{State, made, is_arm, arm_at, phase_at}
-use Rattle.door.specs.Tallies.{same_phase}
-use Rattle.door.specs.Calls.{after, run, refusal_of, way_refusal, answered, has_way, way_answer}
+use Rattle.door.specs.States.{State, made, is_arm, arm_at}
+use Rattle.door.specs.Calls.{after, run, refusal_of, answered, has_way, way_answer}
 use Rattle.door.specs.History.{goes_inside, GoesInside, is_in, Waits, RightOfWay, bit_read, entries_since, idle_then, Rounds}
 use Rattle.door.specs.Law.{Fair, Law, Origin, IsReached, Tells}
 use Rattle.door.specs.declared.call.Call.{Call}
 use Rattle.door.specs.declared.call.Call.TheVariants.{Way}
-use Rattle.door.specs.declared.position.Phase.{Phase}
 use Rattle.door.specs.declared.position.Phase.TheVariants as P
 use Rattle.door.specs.declared.refusal.Refusal.{Refusal}
-use Rattle.door.proofs.Bools.{same, same_sym, same_path, same_trans, opposite, differ, test, clash, and_T, cond_on}
+use Rattle.door.proofs.Bools.{same, same_sym, same_path, test, clash, and_T}
 use Rattle.door.proofs.Rooms.{arms_few}
-use Rattle.door.proofs.machine.Machine.{Machine, side, has}
+use Rattle.door.proofs.machine.Machine.{Machine}
 use Rattle.door.proofs.machine.Invariant.{Free}
 use Rattle.door.proofs.rounds.Waiting.{Waiting, phase_waits}
-use Rattle.door.proofs.machine.Mirror.{bit, as_bit}
+use Rattle.door.proofs.machine.Mirror.{bit}
 use Rattle.door.proofs.Accepted.{arm_in}
 use Rattle.door.proofs.machine.Reached.{Sound, run_n, run_sound, made_sound, phase_shown}
 use Rattle.door.proofs.passed.Past.{Past, past_run, past_bound, none_itself}

@@ -1,12 +1,11 @@
 -- How many arms a bank has room for, and its registers made 0 one by one.
-use Rattle.std.proofs.Common.{◌≡◌, ℕ, zero, suc, ◌+◌, ◌-◌, ◌<◌, ◌≤◌, min, true, false, cond, eqb, leb, List, [], ◌∷◌, ◌++◌, length, get_or, drop, set, replicate, unwrap_or, sym, refl, ap, ◌∙◌, append_assoc, arith, length-append, length-drop}
+use Rattle.std.proofs.Common.{◌≡◌, ℕ, zero, suc, ◌+◌, ◌-◌, ◌<◌, ◌≤◌, min, true, false, leb, List, length, get_or, unwrap_or, arith, length-append, length-drop}
 use lib.ListN.{length-replicate}
 use Rattle.std.specs.List.{slice_get}
 use Rattle.std.proofs.lemmas.List.Edits.{fill_more}
 use Rattle.std.proofs.lemmas.Option.{unwrap_or-slice_get}
-use Rattle.std.proofs.lemmas.Bool.{cond-true, cond_both, leb-true}
 use Rattle.std.proofs.lemmas.Bool.Decides.{nat_tests}
-use Rattle.bank.specs.Registers.{written, can_hold}
+use Rattle.bank.specs.Registers.{written}
 use Rattle.door.specs.Limits.{arm_limit}
 use Rattle.door.specs.Making.{room, largest, arms_for, cleared}
 

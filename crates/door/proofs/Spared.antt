@@ -1,8 +1,6 @@
 -- A step touches no register but the one of its access.
-use Rattle.std.proofs.Common.{◌≡◌, ℕ, ◌-◌, List, get_or, set, Some, None, Option, sym, refl, ap, ◌∙◌, arith}
+use Rattle.std.proofs.Common.{◌≡◌, ℕ, ◌-◌, List, get_or, set, Option, sym, refl, ap, ◌∙◌, arith}
 use Rattle.std.proofs.lemmas.List.{get_or-set_other}
-use Rattle.std.proofs.lemmas.Bool.{cond_both}
-use Rattle.bank.specs.Registers.{can_hold}
 use Rattle.door.specs.Accesses.{Spares, OneAccess}
 use Rattle.door.specs.Arms.{advanced}
 use Rattle.door.specs.Calls.{refusal_of, done, after, unless, access_at}
@@ -10,7 +8,6 @@ use Rattle.door.specs.Positions.{phase_of, regs_after}
 use Rattle.door.specs.States.{State, arm_at, phase_at, with_table}
 use Rattle.door.specs.Tallies.{tallied}
 use Rattle.door.specs.declared.access.Access.{Access}
-use Rattle.door.specs.declared.access.Access.TheVariants.{Nothing, Read, Write}
 use Rattle.door.specs.declared.arm.Arm.{Arm}
 use Rattle.door.specs.declared.call.Call.TheVariants.{Step as step}
 use Rattle.door.specs.declared.refusal.Refusal.{Refusal}

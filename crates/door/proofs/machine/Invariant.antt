@@ -1,12 +1,11 @@
 -- The invariant of the machine: who is inside, and what a waiting arm has passed.
-use Rattle.std.proofs.Common.{◌≡◌, ℕ, ◌+◌, ◌≤◌, Bool, true, false, not, T, eqb, ltb, ◌≢◌, ◌⊎◌, sym, refl, subst, inl, inr, ⊎_elim, arith, eqb→eq, ltb→lt, nltb→le}
+use Rattle.std.proofs.Common.{◌≡◌, ℕ, ◌≤◌, Bool, true, false, not, T, eqb, ◌⊎◌, sym, refl, subst, ⊎_elim, arith, eqb→eq}
 use Rattle.std.proofs.lemmas.Bool.Decides.{nat_tests}
-use Rattle.std.proofs.lemmas.Bool.{cases_eq}
 use Rattle.door.specs.declared.position.Phase.TheVariants as P
 use Rattle.door.specs.declared.position.Place.{Place}
-use Rattle.door.specs.declared.position.Place.TheVariants.{W1, W2, W3, W4, W5, W6}
-use Rattle.door.proofs.Bools.{same, same_refl, same_sym, same_trans, opposite, differ, test, clash, by}
-use Rattle.door.proofs.machine.Machine.{Stance, idle, d1, d2, d3, d4, d5, waits, inside, x1, x2, at, has, choosing, mygroup, flag, next, step_waiting, outcome, step_arm, begin_arm, admit_arm, leave_arm, turn_step, Move, begin, step, admit, leave, act, turn, changed, Machine, moved_to, moved}
+use Rattle.door.specs.declared.position.Place.TheVariants.{W1, W2, W4, W5, W6}
+use Rattle.door.proofs.Bools.{same, same_refl, test, by}
+use Rattle.door.proofs.machine.Machine.{Stance, waits, inside, x1, x2, at, has, choosing, step_waiting, step_arm, turn_step, Move, step, act, turn, changed, Machine, moved_to, moved}
 
 -- a place past W2
 abbrev pub late : Place → Bool

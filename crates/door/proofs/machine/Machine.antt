@@ -1,7 +1,6 @@
 -- The machine that a gate mirrors: what the registers say of an arm is part of the arm's own state.
 use Rattle.std.proofs.Common.{◌≡◌, ℕ, ◌+◌, Bool, true, false, cond, not, ◌&&◌, eqb, ltb, ◌≢◌, Some, None, Option, arith}
 use Rattle.std.proofs.lemmas.Bool.Decides.{nat_tests}
-use lib.Dec.{eqb_refl}
 use Rattle.door.specs.Positions.{phase_of}
 use Rattle.door.specs.Tallies.{same_phase}
 use Rattle.door.specs.declared.position.Doorway.TheVariants.{D1, D2, D3, D4, D5}
@@ -12,7 +11,7 @@ use Rattle.door.specs.declared.position.Place.{Place}
 use Rattle.door.specs.declared.position.Place.TheVariants.{W1, W2, W3, W4, W5, W6}
 use Rattle.door.specs.declared.position.Position.{Position}
 use Rattle.door.specs.declared.position.Position.TheVariants.{Idle, Doorway, Waiting, Inside, Leaving}
-use Rattle.door.proofs.Bools.{same, by, cond_on, test_ne}
+use Rattle.door.proofs.Bools.{same, by}
 
 -- an arm: its position, its side, and what its mygroup register holds where that is not its side
 pub data Stance : Type 0 where

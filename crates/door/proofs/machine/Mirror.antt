@@ -1,12 +1,12 @@
 -- A gate's state mirrors the machine: its registers and records say what the machine's arms are.
-use Rattle.std.proofs.Common.{◌≡◌, ℕ, zero, suc, ◌+◌, ◌-◌, ◌*◌, ◌<◌, ◌≤◌, Bool, true, false, cond, not, ◌&&◌, T, eqb, ltb, leb, ◌≢◌, List, [], ◌∷◌, length, get_or, set, Some, None, Option, sym, refl, ap, ◌∙◌, subst, ⊎_elim, arith}
+use Rattle.std.proofs.Common.{◌≡◌, ℕ, zero, suc, ◌+◌, ◌-◌, ◌*◌, ◌<◌, ◌≤◌, Bool, true, false, not, T, eqb, ◌≢◌, List, [], ◌∷◌, length, get_or, set, Some, None, Option, sym, refl, ap, ◌∙◌, ⊎_elim, arith}
 use Rattle.std.proofs.lemmas.Bool.Decides.{nat_tests}
-use Rattle.std.proofs.lemmas.Bool.{cases_eq, cases_lt, cond_both, and_from, cond-true, lt-ltb, le-leb}
+use Rattle.std.proofs.lemmas.Bool.{cases_eq, cond_both}
 use Rattle.std.proofs.lemmas.List.{length-set, get_or-set_same, get_or-set_other, set_past}
-use Rattle.bank.specs.Registers.{written, can_hold}
-use Rattle.door.specs.Positions.{group, choosing_of, mygroup_of, flag_of, phase_of, access_of, value_read, regs_after, onward, next_place, next_of, side_after, side_of}
+use Rattle.bank.specs.Registers.{written}
+use Rattle.door.specs.Positions.{group, choosing_of, mygroup_of, flag_of, access_of, value_read, regs_after, next_place, next_of, side_after, side_of}
 use Rattle.door.specs.Arms.{no_arm, moved as record_moved}
-use Rattle.door.specs.Tallies.{with_row, counted, each, same_phase, past_doorway, row_started, row_cleared, tallied}
+use Rattle.door.specs.Tallies.{with_row, counted, each, same_phase, row_started, row_cleared, tallied}
 use Rattle.door.specs.States.{State, arm_at, with_table, with_arm}
 use Rattle.door.specs.Calls.{with_visit}
 use Rattle.door.specs.declared.arm.Arm.{Arm}
@@ -19,7 +19,7 @@ use Rattle.door.specs.declared.position.Place.TheVariants.{W1, W2, W3, W4, W5, W
 use Rattle.door.specs.declared.position.Position.{Position}
 use Rattle.door.specs.declared.position.Position.TheVariants.{Doorway, Leaving}
 use Rattle.door.proofs.Bools.{same}
-use Rattle.door.proofs.machine.Machine.{Stance, idle, d1, d2, d3, d4, d5, waits, inside, x1, x2, position, at, side, out, choosing, mygroup, flag, next, step_waiting, outcome, step_arm, turn_step, begin_arm, admit_arm, leave_arm, may_step, changed, changed_same, changed_other, Machine, moved_to}
+use Rattle.door.proofs.machine.Machine.{Stance, idle, d1, d2, d3, d4, d5, waits, inside, x1, x2, position, at, side, out, choosing, mygroup, flag, step_waiting, outcome, step_arm, turn_step, begin_arm, admit_arm, leave_arm, may_step, changed, changed_same, changed_other, Machine, moved_to}
 use Rattle.door.proofs.machine.Invariant.{Own}
 use Rattle.door.proofs.Tables.{length_each}
 

@@ -1,8 +1,7 @@
 -- Every call is a move of the machine or nothing that it sees; so every history of a gate mirrors a run of the machine.
-use Rattle.std.proofs.Common.{◌≡◌, ℕ, zero, suc, ◌+◌, ◌-◌, ◌<◌, ◌≤◌, Bool, false, not, ◌&&◌, T, eqb, leb, List, [], ◌∷◌, ◌++◌, length, get_or, take, drop, replicate, Some, None, Option, sym, refl, ap, ◌∙◌, subst, arith}
+use Rattle.std.proofs.Common.{◌≡◌, ℕ, ◌+◌, ◌-◌, ◌<◌, ◌≤◌, Bool, false, not, ◌&&◌, T, eqb, List, [], ◌∷◌, ◌++◌, length, get_or, take, drop, replicate, None, sym, refl, ap, ◌∙◌, subst, arith}
 use Rattle.std.proofs.lemmas.Bool.Decides.{nat_tests}
-use lib.Dec.{eqb_refl}
-use Rattle.std.proofs.lemmas.Bool.{cond-false, ne_eqb, le-leb}
+use Rattle.std.proofs.lemmas.Bool.{cond-false, ne_eqb}
 use Rattle.std.proofs.lemmas.List.{get_or-replicate, length-replicate, get_or_append_left, take_more}
 use Rattle.door.specs.Limits.{arm_limit}
 use Rattle.door.specs.Positions.{group, choosing_of, mygroup_of, flag_of, phase_of}
@@ -10,14 +9,13 @@ use Rattle.door.specs.Arms.{fresh, no_arm}
 use Rattle.door.specs.Tallies.{same_phase}
 use Rattle.door.specs.Making.{room, arms_for, cleared, made_regs}
 use Rattle.door.specs.States.{State, made, is_arm, arm_at, phase_at}
-use Rattle.door.specs.Calls.{begin_refusal, step_refusal, admit_refusal, knows, refusal_of, arm_after, stepped, done, unless, after, run}
-use Rattle.door.specs.History.{no_refusal, moves, steps, step_of, move_of, is_in, goes_inside}
+use Rattle.door.specs.Calls.{begin_refusal, step_refusal, admit_refusal, knows, refusal_of, arm_after, stepped, done, after, run}
+use Rattle.door.specs.History.{moves, steps, step_of, move_of, is_in, goes_inside}
 use Rattle.door.specs.declared.call.Call.{Call}
 use Rattle.door.specs.declared.call.Call.TheVariants.{Begin, Step, Admit, Confirm, Leave, Look, Tally, Way}
 use Rattle.door.specs.declared.position.Phase.{Phase}
 use Rattle.door.specs.declared.position.Phase.TheVariants as P
-use Rattle.door.specs.declared.refusal.Refusal.{Refusal}
-use Rattle.door.proofs.Bools.{and_T, T_and}
+use Rattle.door.proofs.Bools.{and_T}
 use Rattle.door.proofs.Rooms.{arms_few, arms_fit, length_cleared}
 use Rattle.door.proofs.Accepted.{for_arm_none, begin_none, step_none, admit_none, leave_none, arm_in, known_arm, by_answer}
 use Rattle.door.proofs.machine.Machine.{Stance, idle, position, at, out, Move, begin, step, admit, leave, is_step, is_begin, allowed, may_step, Machine, moved}

@@ -1,13 +1,13 @@
 -- What a door means: the bit, and each arm's phase and side; and how often an arm gets past one that waits, from three rules alone:
 -- a side is the bit at the moment it is read; an arm goes inside only while the bit differs from its side or no other arm has the other side;
 -- only the first exit step alters the bit, setting it to 1 - side.
-use Rattle.std.proofs.Common.{◌≡◌, ℕ, ◌+◌, ◌≤◌, Bool, true, false, cond, not, ◌&&◌, T, eqb, ◌≢◌, ◌⊎◌, sym, refl, ap, ◌∙◌, subst, inl, inr, ⊎_elim, arith, eqb→eq}
+use Rattle.std.proofs.Common.{◌≡◌, ℕ, ◌+◌, ◌≤◌, Bool, false, cond, not, ◌&&◌, T, eqb, ◌≢◌, ◌⊎◌, sym, refl, ap, ◌∙◌, subst, inl, ⊎_elim, arith}
 use Rattle.std.proofs.lemmas.Bool.{cases_eq}
 use Rattle.std.proofs.lemmas.Bool.Decides.{nat_tests}
 use Rattle.door.specs.Tallies.{same_phase}
 use Rattle.door.specs.declared.position.Phase.{Phase}
 use Rattle.door.specs.declared.position.Phase.TheVariants as P
-use Rattle.door.proofs.Bools.{same, same_refl, same_sym, same_trans, and_T, by, ne_test}
+use Rattle.door.proofs.Bools.{same, same_refl, same_trans}
 
 -- an arm: I; D before it reads the bit; D with a side; W; F; X before and after the first exit step
 pub data Stage : Type 0 where

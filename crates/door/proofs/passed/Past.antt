@@ -1,7 +1,6 @@
 -- How often an arm went inside past one that waits, over every history.
-use Rattle.std.proofs.Common.{◌≡◌, ℕ, ◌+◌, ◌≤◌, Bool, true, false, cond, ◌&&◌, T, eqb, List, [], ◌∷◌, sym, refl, ap, ◌∙◌, subst, ⊎_elim, arith}
+use Rattle.std.proofs.Common.{◌≡◌, ℕ, ◌+◌, ◌≤◌, Bool, false, cond, ◌&&◌, T, eqb, List, [], ◌∷◌, sym, ap, ◌∙◌, subst, arith}
 use Rattle.std.proofs.lemmas.Bool.Decides.{nat_tests}
-use lib.Dec.{eqb_refl}
 use Rattle.std.proofs.lemmas.Bool.{cases_eq}
 use Rattle.door.specs.Tallies.{same_phase}
 use Rattle.door.specs.States.{State}
@@ -10,13 +9,12 @@ use Rattle.door.specs.History.{is_in, steps, moves, ends_doorway, goes_inside, c
 use Rattle.door.specs.declared.call.Call.{Call}
 use Rattle.door.specs.declared.position.Phase.{Phase}
 use Rattle.door.specs.declared.position.Phase.TheVariants as P
-use Rattle.door.proofs.Bools.{same, and_T, T_and, cond_on}
-use Rattle.door.proofs.machine.Machine.{Stance, at, Move, step, is_step, allowed, changed_other, Machine, moved}
+use Rattle.door.proofs.machine.Machine.{Stance, at, Move, step, is_step, allowed, Machine, moved}
 use Rattle.door.proofs.machine.Invariant.{inv_moved}
-use Rattle.door.proofs.rounds.Waiting.{only_steps, phase_waits, doorway_steps}
+use Rattle.door.proofs.rounds.Waiting.{phase_waits, doorway_steps}
 use Rattle.door.proofs.machine.Mirror.{Mirror}
 use Rattle.door.proofs.machine.Reached.{Came, stays, goes, came, Sound, phase_shown}
-use Rattle.door.proofs.passed.Meaning.{at as StageAt, Inv as RulesHold, inv_change, ends_doorway as ends, goes_inside as enters, left, Counted, count_change}
+use Rattle.door.proofs.passed.Meaning.{at as StageAt, Inv as RulesHold, inv_change, ends_doorway as ends, goes_inside as enters, Counted, count_change}
 use Rattle.door.proofs.passed.Rules.{stage, stage_phase, meaning, move_change}
 
 absorb : (x y : Bool) → (T y → T x) → (x && y) ≡ y

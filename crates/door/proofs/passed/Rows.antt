@@ -1,5 +1,5 @@
 -- A waiting arm's row and notes are what its history counts.
-use Rattle.std.proofs.Common.{◌≡◌, ℕ, ◌+◌, ◌-◌, ◌<◌, ◌≤◌, min, Bool, true, false, cond, not, ◌&&◌, T, eqb, ◌≢◌, ◌⊎◌, List, [], ◌∷◌, map, length, get_or, set, replicate, Some, None, Option, sym, refl, ap, ◌∙◌, subst, inl, inr, ⊎_elim, arith, eqb→eq}
+use Rattle.std.proofs.Common.{◌≡◌, ℕ, ◌+◌, ◌-◌, ◌<◌, ◌≤◌, min, Bool, true, false, cond, not, ◌&&◌, T, eqb, ◌≢◌, ◌⊎◌, List, [], ◌∷◌, map, length, get_or, set, replicate, None, sym, refl, ap, ◌∙◌, subst, ⊎_elim, arith}
 use Rattle.std.proofs.lemmas.Grind.{get_or-set_at}
 use Rattle.std.proofs.lemmas.Bool.Decides.{nat_tests}
 use lib.Dec.{eqb_refl}
@@ -8,21 +8,20 @@ use Rattle.std.proofs.lemmas.List.{length-replicate, get_or-replicate, length-se
 use Rattle.door.specs.Limits.{arm_limit, tally_limit}
 use Rattle.door.specs.Positions.{phase_of, next_of, side_of, value_read}
 use Rattle.door.specs.Arms.{no_arm}
-use Rattle.door.specs.Tallies.{with_row, counted, each, is_idle, same_phase, past_doorway, row_started, row_cleared, tallied}
+use Rattle.door.specs.Tallies.{with_row, counted, is_idle, same_phase, past_doorway, tallied}
 use Rattle.door.specs.States.{State, arm_at, phase_at, with_arm}
-use Rattle.door.specs.Calls.{refusal_of, step_refusal, with_visit, access_at, arm_after, stepped, done, unless, after, run}
+use Rattle.door.specs.Calls.{refusal_of, step_refusal, with_visit, access_at, arm_after, stepped, done, after, run}
 use Rattle.door.specs.History.{no_refusal, is_in, step_of, ends_doorway, goes_inside, count_on, latest_idle}
 use Rattle.door.specs.declared.arm.Arm.{Arm}
 use Rattle.door.specs.declared.call.Call.{Call}
 use Rattle.door.specs.declared.call.Call.TheVariants.{Begin, Step, Admit, Confirm, Leave, Look, Tally, Way}
-use Rattle.door.specs.declared.position.Doorway.TheVariants.{D1, D2, D3, D4, D5}
-use Rattle.door.specs.declared.position.Exit.TheVariants.{X1, X2}
+use Rattle.door.specs.declared.position.Doorway.TheVariants.{D1}
+use Rattle.door.specs.declared.position.Exit.TheVariants.{X1}
 use Rattle.door.specs.declared.position.Phase.{Phase}
 use Rattle.door.specs.declared.position.Phase.TheVariants as P
 use Rattle.door.specs.declared.position.Position.{Position}
-use Rattle.door.specs.declared.position.Position.TheVariants.{Idle, Doorway, Waiting, Inside, Leaving}
-use Rattle.door.specs.declared.refusal.Refusal.{Refusal}
-use Rattle.door.proofs.Bools.{clash, none_of, and_T, T_and, by, is_true, is_false, test_ne}
+use Rattle.door.specs.declared.position.Position.TheVariants.{Doorway, Leaving}
+use Rattle.door.proofs.Bools.{by, is_true}
 use Rattle.door.proofs.Tables.{getD_each}
 use Rattle.door.proofs.machine.Mirror.{tallied_table}
 use Rattle.door.proofs.Accepted.{known_arm, by_answer}

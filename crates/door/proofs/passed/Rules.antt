@@ -1,8 +1,8 @@
 -- The machine shows the three rules: every move of it is a change of its meaning.
-use Rattle.std.proofs.Common.{◌≡◌, ℕ, Bool, true, not, T, sym, refl, ap, subst, ⊎_elim, arith}
+use Rattle.std.proofs.Common.{◌≡◌, ℕ, Bool, true, not, T, sym, ap, subst, ⊎_elim, arith}
 use Rattle.door.specs.Positions.{phase_of}
 use Rattle.door.specs.declared.position.Place.{Place}
-use Rattle.door.proofs.machine.Machine.{Stance, idle, d1, d2, d3, d4, d5, waits, inside, x1, x2, position, has, step_waiting, step_arm, begin_arm, admit_arm, leave_arm, turn_step, Move, begin, step, admit, leave, act, turn, changed_same, changed_other, Machine, moved}
+use Rattle.door.proofs.machine.Machine.{Stance, idle, d1, d2, d3, d4, d5, waits, inside, x1, x2, position, has, step_waiting, step_arm, turn_step, Move, begin, step, admit, leave, act, turn, changed_same, changed_other, Machine, moved}
 use Rattle.door.proofs.machine.Invariant.{Own, Inv, Free, Ranged, wait_own}
 use Rattle.door.proofs.rounds.Waiting.{wait_out}
 use Rattle.door.proofs.passed.Meaning.{Stage, resting, coming, read, waiting, inside as within, leaving, turned, has as stage_has, phase, Goes, rests, begins, reads, ends, enters, leaves, turns, quits, Meaning, Change}

@@ -4,8 +4,8 @@ use Rattle.std.proofs.lemmas.Bool.Decides.{nat_tests}
 use Rattle.std.proofs.lemmas.Bool.{cases_eq}
 use Rattle.door.specs.declared.position.Phase.TheVariants as P
 use Rattle.door.specs.declared.position.Place.{Place}
-use Rattle.door.proofs.Bools.{same, opposite, test, clash, none_of, and_T, T_and, by, ne_test, test_ne}
-use Rattle.door.proofs.machine.Machine.{Stance, idle, d1, d2, d3, d4, d5, waits, inside, x1, x2, at, has, choosing, outcome, step_arm, turn_step, Move, begin, step, admit, leave, act, turn, allowed, changed_other, Machine, moved_to, moved}
+use Rattle.door.proofs.Bools.{same, test, clash, none_of, and_T, ne_test}
+use Rattle.door.proofs.machine.Machine.{Stance, waits, x1, at, has, choosing, step_arm, turn_step, Move, step, act, turn, allowed, changed_other, Machine, moved_to, moved}
 use Rattle.door.proofs.machine.Invariant.{Own, Inv, seen_act, changed_seen}
 use Rattle.door.proofs.rounds.Waiting.{Waiting, Entry, only_steps, not_both, D_awake, has_awake, find, has_own, index_in, move_out}
 use Rattle.door.proofs.rounds.Potential.{budget, Fit, budget_act, budget_act_critical, paid, turn_away, place_act, potential}

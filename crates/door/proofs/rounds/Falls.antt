@@ -1,11 +1,11 @@
 -- How the potential of a waiting arm changes with a move.
-use Rattle.std.proofs.Common.{◌≡◌, ℕ, ◌+◌, ◌*◌, ◌≤◌, Bool, true, false, cond, not, T, eqb, ◌≢◌, sym, ap, ◌∙◌, subst, arith, eqb→eq}
+use Rattle.std.proofs.Common.{◌≡◌, ℕ, ◌+◌, ◌*◌, ◌≤◌, Bool, cond, not, T, ◌≢◌, sym, ap, ◌∙◌, subst, arith}
 use Rattle.std.proofs.lemmas.Bool.Decides.{nat_tests}
 use Rattle.door.specs.declared.position.Place.{Place}
-use Rattle.door.proofs.Bools.{same, by, test_ne}
-use Rattle.door.proofs.machine.Machine.{Stance, idle, d1, d2, d3, d4, d5, waits, inside, x1, x2, has, choosing, flag, step_waiting, changed, changed_same, changed_other, Machine, moved_to}
+use Rattle.door.proofs.Bools.{same}
+use Rattle.door.proofs.machine.Machine.{Stance, waits, has, choosing, flag, step_waiting, changed, changed_same, changed_other, Machine, moved_to}
 use Rattle.door.proofs.machine.Invariant.{Own}
-use Rattle.door.proofs.rounds.Potential.{budget, place_rank, rank, rank_of, total, total_le, total_drop, total_bound, budget_bound, Fit, budget_falls, keeps_look, wait_rank, mask, potential, free_rank}
+use Rattle.door.proofs.rounds.Potential.{budget, place_rank, rank, rank_of, total, total_le, total_drop, total_bound, budget_bound, Fit, budget_falls, keeps_look, wait_rank, mask, potential}
 
 -- what the invariant says of each arm while one with side s waits
 pub fit_of : (g : Machine) (w : ℕ) (s : Bool) → T (has s (g.arms w)) → (a : Stance) → Own g.n g.group g.arms a → Fit g.group s a

@@ -1,12 +1,12 @@
 -- The potential of a waiting arm: its own rank, and a budget for each other arm.
-use Rattle.std.proofs.Common.{ℕ, zero, suc, ◌+◌, ◌-◌, ◌*◌, ◌≤◌, Bool, true, false, cond, not, T, eqb, ltb, ◌≢◌, subst, ⊎_elim, arith, ltb→lt}
+use Rattle.std.proofs.Common.{ℕ, zero, suc, ◌+◌, ◌-◌, ◌*◌, ◌≤◌, Bool, true, false, cond, not, T, eqb, ◌≢◌, subst, ⊎_elim, arith}
 use Rattle.std.proofs.lemmas.Bool.Decides.{nat_tests}
 use Rattle.std.proofs.lemmas.Bool.{cases_eq}
 use Rattle.door.specs.declared.position.Phase.TheVariants as P
 use Rattle.door.specs.declared.position.Place.{Place}
 use Rattle.door.specs.declared.position.Place.TheVariants.{W1, W2, W3, W4, W5, W6}
-use Rattle.door.proofs.Bools.{same, same_trans, clash, by}
-use Rattle.door.proofs.machine.Machine.{Stance, idle, d1, d2, d3, d4, d5, waits, inside, x1, x2, at, has, choosing, mygroup, flag, next, step_waiting, outcome, step_arm, begin_arm, admit_arm, leave_arm, turn_step, Move, begin, step, admit, leave, act, turn, may_step, allowed, Machine}
+use Rattle.door.proofs.Bools.{same}
+use Rattle.door.proofs.machine.Machine.{Stance, idle, d1, d2, d3, d4, d5, waits, inside, x1, x2, at, has, choosing, flag, step_waiting, outcome, Move, step, act, turn, allowed, Machine}
 
 abbrev pub place_cost : Place → ℕ
 place_cost W1 = 35

@@ -4,7 +4,7 @@ use Rattle.std.proofs.lemmas.Bool.{cases_eq}
 use Rattle.door.specs.declared.position.Phase.TheVariants as P
 use Rattle.door.specs.declared.position.Place.{Place}
 use Rattle.door.proofs.Bools.{same_refl, test}
-use Rattle.door.proofs.machine.Machine.{Stance, idle, d1, d2, d3, d4, d5, waits, inside, x1, x2, at, has, choosing, step_waiting, outcome, step_arm, Move, begin, step, admit, leave, is_step, allowed, changed_same, changed_other, Machine, moved}
+use Rattle.door.proofs.machine.Machine.{Stance, waits, inside, at, has, step_waiting, outcome, step_arm, Move, step, is_step, allowed, changed_same, changed_other, Machine, moved}
 use Rattle.door.proofs.machine.Invariant.{Free, Own, Inv, wait_own}
 
 abbrev pub Waiting : Bool → Stance → Type 0

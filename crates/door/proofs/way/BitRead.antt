@@ -1,8 +1,6 @@
 -- The bit that an arm read, found in the history, is its side.
-use Rattle.std.proofs.Common.{◌≡◌, ℕ, ◌≤◌, Bool, false, cond, not, ◌&&◌, T, eqb, ◌⊎◌, List, [], ◌∷◌, Some, sym, refl, ap, ◌∙◌, subst, inl, inr, ⊎_elim, arith, eqb→eq}
+use Rattle.std.proofs.Common.{◌≡◌, ℕ, ◌≤◌, Bool, false, cond, not, ◌&&◌, T, eqb, ◌⊎◌, List, [], ◌∷◌, Some, sym, ap, ◌∙◌, subst, arith, eqb→eq}
 use Rattle.std.proofs.lemmas.Bool.Decides.{nat_tests}
-use lib.Dec.{eqb_refl}
-use Rattle.std.proofs.lemmas.Bool.{cases_eq}
 use Rattle.door.specs.Positions.{group, phase_of, access_of, side_of}
 use Rattle.door.specs.Tallies.{same_phase}
 use Rattle.door.specs.States.{State, arm_at}
@@ -10,8 +8,8 @@ use Rattle.door.specs.Calls.{access_at, after, run}
 use Rattle.door.specs.History.{is_in, steps, moves, of_group, reads_group, latest_bit}
 use Rattle.door.specs.declared.call.Call.{Call}
 use Rattle.door.specs.declared.position.Phase.TheVariants as P
-use Rattle.door.proofs.Bools.{same, same_refl, same_path, clash, and_T, T_and, by}
-use Rattle.door.proofs.machine.Machine.{Stance, idle, d1, d2, d3, d4, d5, waits, inside, x1, x2, position, at, side, has, outcome, step_arm, Move, begin, step, admit, leave, is_step, act, allowed, begin_arm, admit_arm, leave_arm, changed_same, changed_other, Machine, moved}
+use Rattle.door.proofs.Bools.{same, same_refl, same_path, and_T, by}
+use Rattle.door.proofs.machine.Machine.{Stance, d2, position, at, side, has, step_arm, Move, step, is_step, act, allowed, changed_same, Machine, moved}
 use Rattle.door.proofs.machine.Invariant.{inv_moved}
 use Rattle.door.proofs.rounds.Waiting.{doorway_steps, phase_waits}
 use Rattle.door.proofs.machine.Mirror.{bit, as_bit, register}

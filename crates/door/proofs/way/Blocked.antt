@@ -1,19 +1,16 @@
 -- An arm that is not free to go has no right of way: others end their doorways, then it steps 8 n times and waits on.
-use Rattle.std.proofs.Common.{◌≡◌, ℕ, zero, suc, ◌+◌, ◌*◌, ◌≤◌, Bool, true, false, cond, not, ◌&&◌, T, eqb, ◌≢◌, List, [], ◌∷◌, None, sym, refl, ap, ◌∙◌, subst, ⊎_elim, arith, eqb→eq}
+use Rattle.std.proofs.Common.{◌≡◌, ℕ, zero, suc, ◌+◌, ◌*◌, ◌≤◌, Bool, cond, not, ◌&&◌, T, eqb, ◌≢◌, List, [], ◌∷◌, sym, refl, ap, subst, ⊎_elim, arith, eqb→eq}
 use Rattle.std.proofs.lemmas.Bool.Decides.{nat_tests}
 use lib.Dec.{eqb_refl}
 use Rattle.std.proofs.lemmas.Bool.{cases_eq}
-use Rattle.door.specs.Positions.{phase_of}
-use Rattle.door.specs.Tallies.{same_phase}
-use Rattle.door.specs.States.{State, is_arm, phase_at}
-use Rattle.door.specs.Calls.{refusal_of, step_refusal, after}
-use Rattle.door.specs.History.{no_refusal, accepted, is_in, steps, moves, goes_inside, GoesInside, steps_in, NoOtherInDoorway, RightOfWay}
+use Rattle.door.specs.States.{State}
+use Rattle.door.specs.Calls.{after}
+use Rattle.door.specs.History.{accepted, steps, moves, goes_inside, GoesInside, steps_in, NoOtherInDoorway, RightOfWay}
 use Rattle.door.specs.declared.call.Call.{Call}
 use Rattle.door.specs.declared.call.Call.TheVariants.{Step}
-use Rattle.door.specs.declared.position.Phase.{Phase}
 use Rattle.door.specs.declared.position.Phase.TheVariants as P
-use Rattle.door.proofs.Bools.{same, same_sym, opposite, clash, none_of, and_T, T_and, by, cond_on, is_false, ne_test, test_ne}
-use Rattle.door.proofs.machine.Machine.{Stance, idle, d1, d2, d3, d4, d5, waits, inside, x1, x2, at, has, step_arm, turn_step, Move, step, is_step, allowed, may_step, changed_same, changed_other, Machine, moved}
+use Rattle.door.proofs.Bools.{same, same_sym, opposite, clash, and_T, T_and, by, ne_test, test_ne}
+use Rattle.door.proofs.machine.Machine.{Stance, d1, d2, d3, d4, d5, at, has, step_arm, turn_step, Move, step, is_step, allowed, may_step, changed_other, Machine, moved}
 use Rattle.door.proofs.machine.Invariant.{Inv, inv_moved}
 use Rattle.door.proofs.rounds.Waiting.{Waiting, only_steps, doorway_steps, not_both, D_awake, find, has_own, other_waits, own_out, own_free}
 use Rattle.door.proofs.rounds.Potential.{total, total_drop}

@@ -1,12 +1,12 @@
 -- How many own steps a waiting arm still needs while it is free to go and no other arm is in its doorway.
-use Rattle.std.proofs.Common.{◌≡◌, ℕ, ◌+◌, ◌-◌, ◌*◌, ◌≤◌, Bool, true, false, cond, not, T, eqb, ltb, ◌≢◌, sym, ap, ◌∙◌, subst, ⊎_elim, arith, eqb→eq, ltb→lt}
+use Rattle.std.proofs.Common.{◌≡◌, ℕ, ◌+◌, ◌-◌, ◌*◌, ◌≤◌, Bool, true, false, cond, not, T, eqb, ◌≢◌, sym, ap, ◌∙◌, subst, ⊎_elim, arith, eqb→eq}
 use Rattle.std.proofs.lemmas.Bool.Decides.{nat_tests}
 use Rattle.door.specs.declared.position.Phase.TheVariants as P
 use Rattle.door.specs.declared.position.Place.{Place}
 use Rattle.door.specs.declared.position.Place.TheVariants.{W1, W2, W3, W4, W5, W6}
-use Rattle.door.proofs.Bools.{same, same_refl, same_sym, opposite, differ, test, clash, none_of, by, ne_test}
-use Rattle.door.proofs.machine.Machine.{Stance, idle, d1, d2, d3, d4, d5, waits, inside, x1, x2, at, has, choosing, mygroup, flag, next, step_waiting, outcome, step_arm, turn_step, Move, begin, step, admit, leave, act, changed, changed_same, changed_other, Machine, moved}
-use Rattle.door.proofs.machine.Invariant.{Free, Inv, far, Home, seen_act, changed_seen}
+use Rattle.door.proofs.Bools.{same, same_refl, same_sym, opposite, differ, test, none_of, by}
+use Rattle.door.proofs.machine.Machine.{Stance, waits, at, has, mygroup, step_waiting, step_arm, turn_step, Move, step, act, changed, changed_same, changed_other, Machine, moved}
+use Rattle.door.proofs.machine.Invariant.{Free, Inv, Home, seen_act, changed_seen}
 use Rattle.door.proofs.rounds.Waiting.{has_own}
 use Rattle.door.proofs.rounds.Potential.{Fit, turn_away, free_rank}
 use Rattle.door.proofs.rounds.Falls.{fit_of}
