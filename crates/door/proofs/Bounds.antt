@@ -1,14 +1,14 @@
 -- A gate's state stays within its bounds, whatever is called.
-use Rattle.std.proofs.Common.{◌≡◌, ℕ, zero, suc, ◌+◌, ◌-◌, ◌*◌, ◌≤◌, Bool, true, false, not, ◌&&◌, eqb, List, [], ◌∷◌, length, get_or, set, replicate, Option, sym, ap, ◌∙◌, subst, inl, inr, arith}
+use Rattle.std.proofs.Common.{ℕ, zero, suc, ◌+◌, ◌-◌, ◌≤◌, Bool, true, false, not, ◌&&◌, eqb, List, [], ◌∷◌, length, get_or, set, replicate, Option, arith}
 use Rattle.std.proofs.lemmas.List.{get_or-set_same, get_or-set_other, set_past, get_or-replicate, get_or_past, length-replicate}
-use Rattle.std.proofs.lemmas.Bool.{cond_both, cases_eq, cases_lt, cond-false}
+use Rattle.std.proofs.lemmas.Bool.{cond_both}
 use Rattle.std.proofs.lemmas.Bool.Decides.{nat_tests}
-use Rattle.bank.specs.Registers.{written, can_hold}
+use Rattle.bank.specs.Registers.{written}
 use Rattle.door.specs.Limits.{arm_limit, visit_limit, tally_limit}
 use Rattle.door.specs.Positions.{group, access_of, regs_after, value_read, side_after, side_of, phase_of}
 use Rattle.door.specs.Arms.{fresh, no_arm}
 use Rattle.door.specs.Tallies.{with_row, counted, each, same_phase, past_doorway, row_started, row_cleared, tallied}
-use Rattle.door.specs.Making.{room, arms_for, made_regs, cleared}
+use Rattle.door.specs.Making.{arms_for, made_regs}
 use Rattle.door.specs.States.{State, made, arm_at, is_arm, phase_at, with_arm}
 use Rattle.door.specs.declared.call.Call.{Call}
 use Rattle.door.specs.declared.call.Call.TheVariants.{Begin as begin, Step as step, Admit as admit, Confirm as confirm, Leave as leave, Look as look, Tally as tally, Way as way}
@@ -16,12 +16,12 @@ use Rattle.door.specs.Calls.{refusal_of, begin_refusal, step_refusal, done, afte
 use Rattle.door.specs.declared.access.Access.{Access}
 use Rattle.door.specs.declared.access.Access.TheVariants.{Nothing, Read, Write}
 use Rattle.door.specs.declared.arm.Arm.{Arm}
-use Rattle.door.specs.declared.position.Doorway.TheVariants.{D1, D2, D3, D4, D5}
-use Rattle.door.specs.declared.position.Exit.TheVariants.{X1, X2}
+use Rattle.door.specs.declared.position.Doorway.TheVariants.{D1}
+use Rattle.door.specs.declared.position.Exit.TheVariants.{X1}
 use Rattle.door.specs.declared.position.Phase.{Phase}
 use Rattle.door.specs.declared.position.Phase.TheVariants as P
 use Rattle.door.specs.declared.position.Position.{Position}
-use Rattle.door.specs.declared.position.Position.TheVariants.{Idle, Doorway, Waiting, Inside, Leaving}
+use Rattle.door.specs.declared.position.Position.TheVariants.{Doorway, Leaving}
 use Rattle.door.proofs.Accepted.{unless_both, for_arm_none, begin_none, known_arm}
 use Rattle.door.proofs.Rooms.{arms_few}
 
@@ -39,21 +39,10 @@ pub record Bounded (s : State) : Type 0 where
 
 -- what holds of every place of a list holds after one is replaced
 pub kept_set : {X : Type 0} (P : X → Type 0) (xs : List X) (i : ℕ) (x d : X) → ((k : ℕ) → P (get_or xs k d)) → P x → (k : ℕ) → P (get_or (set xs i x) k d)
-kept_set P xs i x d all one k =
-    elim (cases_eq k i) [
-      | inl e ↦ elim (cases_lt i (length xs)) [
-        | inl l ↦ subst P (sym (ap (λ j. get_or (set xs i x) j d) e ∙ get_or-set_same xs i x d l)) one
-        | inr l ↦ subst (λ ys. P (get_or ys k d)) (sym (set_past xs i x l)) (all k)
-      ]
-      | inr n ↦ subst P (sym (get_or-set_other xs i k x d n)) (all k)
-    ]
+kept_set P xs i x d all one k = grind (arith, get_or-set_same, get_or-set_other, set_past, all k)
 
 kept_replicate : {X : Type 0} (P : X → Type 0) (n : ℕ) (x d : X) → P x → P d → (k : ℕ) → P (get_or (replicate n x) k d)
-kept_replicate P n x d px pd k =
-    elim (cases_lt k n) [
-      | inl l ↦ subst P (sym (get_or-replicate n k x d l)) px
-      | inr l ↦ subst P (sym (get_or_past (replicate n x) k d (subst (λ m. m ≤ k) (sym (length-replicate n x)) l))) pd
-    ]
+kept_replicate P n x d px pd k = grind (arith, get_or-replicate, get_or_past, length-replicate)
 
 zeros : (n k : ℕ) → get_or (replicate n 0) k 0 ≤ tally_limit
 zeros n k = kept_replicate (λ v. v ≤ tally_limit) n 0 0 (omega arith) (omega arith) k
@@ -72,48 +61,19 @@ WritesBit (Write q v) = v ≤ 1
 
 writes_bit : (i s : ℕ) (p : Position) → s ≤ 1 → WritesBit (access_of i s p)
 unfolding WritesBit
-writes_bit i s Idle h = tt
-writes_bit i s (Doorway D1) h = omega arith
-writes_bit i s (Doorway D2) h = tt
-writes_bit i s (Doorway D3) h = h
-writes_bit i s (Doorway D4) h = omega arith
-writes_bit i s (Doorway D5) h = omega arith
-writes_bit i s (Waiting j p) h = tt
-writes_bit i s Inside h = tt
-writes_bit i s (Leaving X1) h = omega arith
-writes_bit i s (Leaving X2) h = omega arith
+writes_bit i s p h = grind arith
 
 written_bit : (high : ℕ) (regs : List ℕ) (q v : ℕ) → get_or regs group 0 ≤ 1 → v ≤ 1 → get_or (written high regs q v) group 0 ≤ 1
-written_bit high regs q v h b =
-    cond_both (can_hold high regs q v) _ _ (λ rs. get_or rs group 0 ≤ 1)
-    (λ _. elim (cases_eq group q) [
-      | inl e ↦ elim (cases_lt q (length regs)) [
-        | inl l ↦ subst (λ x. x ≤ 1) (sym (ap (λ j. get_or (set regs q v) j 0) e ∙ get_or-set_same regs q v 0 l)) b
-        | inr l ↦ subst (λ rs. get_or rs group 0 ≤ 1) (sym (set_past regs q v l)) h
-      ]
-      | inr n ↦ subst (λ x. x ≤ 1) (sym (get_or-set_other regs q group v 0 n)) h
-    ])
-    (λ _. h)
+written_bit high regs q v h b = grind (arith, get_or-set_same, get_or-set_other, set_past)
 
 access_bit : (high : ℕ) (regs : List ℕ) (a : Access) → get_or regs group 0 ≤ 1 → WritesBit a → get_or (regs_after high regs a) group 0 ≤ 1
 unfolding WritesBit
-access_bit high regs Nothing h b = h
-access_bit high regs (Read q) h b = h
-access_bit high regs (Write q v) h b = written_bit high regs q v h b
+access_bit high regs a h b = grind (arith, written_bit)
 
 -- the side that a step leaves is a bit
 side_bit : (i : ℕ) (regs : List ℕ) (p : Position) (s : Option ℕ) → get_or regs group 0 ≤ 1 → side_of s ≤ 1
     → side_of (side_after (value_read regs (access_of i (side_of s) p)) p s) ≤ 1
-side_bit i regs Idle s h b = b
-side_bit i regs (Doorway D1) s h b = b
-side_bit i regs (Doorway D2) s h b = h
-side_bit i regs (Doorway D3) s h b = b
-side_bit i regs (Doorway D4) s h b = b
-side_bit i regs (Doorway D5) s h b = b
-side_bit i regs (Waiting j p) s h b = b
-side_bit i regs Inside s h b = b
-side_bit i regs (Leaving X1) s h b = b
-side_bit i regs (Leaving X2) s h b = omega arith
+side_bit i regs p s h b = grind arith
 
 -- rows
 row_bounded : (r : List ℕ) (t : List Bool) (a : Arm) → ((b : ℕ) → get_or r b 0 ≤ tally_limit) → BoundedArm a → BoundedArm (with_row r t a)
@@ -189,14 +149,8 @@ after_bounded s (tally w b) h = unless_both (refusal_of s (tally w b)) s s Bound
 after_bounded s (way i) h = unless_both (refusal_of s (way i)) s s Bounded (λ _. h) h
 
 -- a gate just made
-cleared_bit : (k : ℕ) (regs : List ℕ) → get_or (cleared (suc k) regs) group 0 ≤ 1
-cleared_bit k regs = omega arith
-
 made_bit : (n : ℕ) (regs : List ℕ) → 1 ≤ n → get_or (made_regs n regs) group 0 ≤ 1
-made_bit n regs h =
-    let some : eqb n 0 ≡ false = grind (arith, nat_tests) in
-    let e : room n ≡ suc (3 * n) = omega arith in
-    subst (λ rs. get_or rs group 0 ≤ 1) (sym (cond-false (eqb n 0) regs (cleared (room n) regs) some ∙ ap (λ k. cleared k regs) e)) (cleared_bit (3 * n) regs)
+made_bit n regs h = grind (arith, nat_tests)
 
 pub made_bounded : (high number wanted : ℕ) (regs : List ℕ) → Bounded (made high number wanted regs)
 made_bounded high number wanted regs =

@@ -1,26 +1,24 @@
 -- The law of the gate: each of its parts for every making and every list of calls.
-use Rattle.std.proofs.Common.{◌≡◌, ℕ, ◌+◌, ◌-◌, ◌*◌, ◌≤◌, Bool, true, false, not, T, ◌↔◌, ◌⊎◌, List, [], ◌∷◌, length, Some, None, Ok, Result, sym, refl, ap, ◌∙◌, subst, inl, inr, ⊎_elim, arith}
+use Rattle.std.proofs.Common.{◌≡◌, ℕ, ◌+◌, ◌-◌, ◌*◌, ◌≤◌, Bool, true, false, not, T, ◌↔◌, ◌⊎◌, List, [], ◌∷◌, length, None, Ok, Result, sym, ap, ◌∙◌, subst, inr, ⊎_elim, arith}
 use Rattle.std.proofs.lemmas.Grind.{not_there}
 use Rattle.std.proofs.lemmas.List.{get_or-replicate, length-replicate}
 use Rattle.door.specs.Limits.{arm_limit}
 use Rattle.door.specs.Making.{arms_for}
 use Rattle.door.specs.Arms.{fresh, no_arm}
-use Rattle.door.specs.States.{State, made, is_arm, arm_at, phase_at}
-use Rattle.door.specs.Tallies.{same_phase}
-use Rattle.door.specs.Calls.{after, run, refusal_of, way_refusal, answered, has_way, way_answer}
+use Rattle.door.specs.States.{State, made, is_arm, arm_at}
+use Rattle.door.specs.Calls.{after, run, refusal_of, answered, has_way, way_answer}
 use Rattle.door.specs.History.{goes_inside, GoesInside, is_in, Waits, RightOfWay, bit_read, entries_since, idle_then, Rounds}
 use Rattle.door.specs.Law.{Fair, Law, Origin, IsReached, Tells}
 use Rattle.door.specs.declared.call.Call.{Call}
 use Rattle.door.specs.declared.call.Call.TheVariants.{Way}
-use Rattle.door.specs.declared.position.Phase.{Phase}
 use Rattle.door.specs.declared.position.Phase.TheVariants as P
 use Rattle.door.specs.declared.refusal.Refusal.{Refusal}
-use Rattle.door.proofs.Bools.{same, same_sym, same_path, same_trans, opposite, differ, same_other, test, clash, and_T, cond_on}
+use Rattle.door.proofs.Bools.{same, same_sym, same_path, test, clash, and_T}
 use Rattle.door.proofs.Rooms.{arms_few}
-use Rattle.door.proofs.machine.Machine.{Machine, side, has}
+use Rattle.door.proofs.machine.Machine.{Machine}
 use Rattle.door.proofs.machine.Invariant.{Free}
 use Rattle.door.proofs.rounds.Waiting.{Waiting, phase_waits}
-use Rattle.door.proofs.machine.Mirror.{bit, as_bit}
+use Rattle.door.proofs.machine.Mirror.{bit}
 use Rattle.door.proofs.Accepted.{arm_in}
 use Rattle.door.proofs.machine.Reached.{Sound, run_n, run_sound, made_sound, phase_shown}
 use Rattle.door.proofs.passed.Past.{Past, past_run, past_bound, none_itself}
@@ -31,9 +29,6 @@ use Rattle.door.proofs.rounds.Rounds.{all_go_inside}
 
 bit_once : (x y : Bool) → bit x ≡ bit y → T (same x y)
 bit_once x y e = grind arith
-
-some_once : (x y : ℕ) → Some x ≡ Some y → x ≡ y
-some_once x y e = cc
 
 module _ (high number wanted : ℕ) (regs : List ℕ) (past : List Call) where
   abbrev n : ℕ
@@ -67,7 +62,10 @@ module _ (high number wanted : ℕ) (regs : List ℕ) (past : List Call) where
         let read = read_run w n lo hi past start 0 (record { sound = made_sound high number wanted regs some; reads = λ t h. absurd h }) in
         let z = sound.mirror.size in
         let e = sound.arms_are in
-        some_once _ _ (sym (read_side w n lo hi now (bit_read w start past) read t) ∙ ((sound.mirror.shows w lo (omega arith)).sided ∙ ap (λ a. as_bit (side a)) v.2))
+        let x = read_side w n lo hi now (bit_read w start past) read t in
+        let y = (sound.mirror.shows w lo (omega arith)).sided in
+        let q = v.2 in
+        grind arith
 
     -- two arms with the same side are free to go together; of two with different sides one only
     both_free : (t v : Bool) → T (same t v) → Free sound.machine.group sound.machine.arms t → Free sound.machine.group sound.machine.arms v
@@ -78,18 +76,12 @@ module _ (high number wanted : ℕ) (regs : List ℕ) (past : List Call) where
         → (Free sound.machine.group sound.machine.arms v → Free sound.machine.group sound.machine.arms t) → ⊥
     one_free u w t v wu ww d to from =
         let g : Machine = sound.machine in
-        let has_u : T (has (not v) (g.arms u)) = subst (λ a. T (has (not v) a)) (sym wu.2) (same_sym t (not v) (differ t v d)) in
-        let has_w : T (has (not t) (g.arms w)) = subst (λ a. T (has (not t) a)) (sym ww.2) (same_other t v d) in
+        let us = wu.2 in
+        let ws = ww.2 in
         ⊎_elim
-        (λ q. let f = to (λ k h. differ g.group t q) in clash (same g.group t) (same_trans g.group (not v) t (f u has_u) (same_sym t (not v) (differ t v d))) q)
-        (λ q.
-        let q' : T (same g.group t) = none_twice (same g.group t) q in
-        let f = from (λ k h. same_trans g.group t (not v) q' (differ t v d)) in opposite g.group t q' (same_sym g.group (not t) (f w has_w)))
-        (test (not (same g.group t)))
-      where
-        none_twice : (b : Bool) → T (not (not b)) → T b
-        none_twice true h = tt
-        none_twice false h = absurd h
+        (λ q. let f = from (λ k h. grind arith) w in grind arith)
+        (λ q. let f = to (λ k h. grind arith) u in grind arith)
+        (test (same g.group t))
 
     alike : (u w : ℕ) → 1 ≤ u → u ≤ n → T (is_in P.W now u) → 1 ≤ w → w ≤ n → T (is_in P.W now w)
         → (RightOfWay now u ↔ RightOfWay now w) ↔ (bit_read u start past ≡ bit_read w start past)
@@ -151,31 +143,18 @@ pub law : (s : State) → Law s
 law s high number wanted regs past e = subst (Fair (made high number wanted regs) past) e (fair high number wanted regs past)
 
 -- the answer of way
-way_accepted : (p : Phase) → T (same_phase p P.W) → way_refusal p ≡ None
-way_accepted P.I h = absurd h
-way_accepted P.D h = absurd h
-way_accepted P.W h = refl
-way_accepted P.F h = absurd h
-way_accepted P.X h = absurd h
-
 yes_is : (b : Bool) → (◌≡◌ {A = Result Bool Refusal} (Ok b) (Ok true)) ↔ T b
-yes_is true = ((λ e. tt), (λ h. refl))
-yes_is false = ((λ e. absurd (let z : ◌≡◌ {A = ℕ} 0 1 = cc in omega arith)), (λ h. absurd h))
+yes_is b = grind arith
 
 -- what way answers of a waiting arm, of a state that calls lead to: whether it goes inside is decided, so any origin will do
 decided : (w : ℕ) (s : State) (cs : List Call) → GoesInside w s cs ⊎ ¬ (GoesInside w s cs)
 decided w s [] = inr (λ h. h)
-decided w s (c ∷ cs) =
-    ⊎_elim
-    (λ t. inl (inl t))
-    (λ d. ⊎_elim (λ g. inl (inr g)) (λ n. inr (λ h. ⊎_elim (λ t. clash (goes_inside w s c) t d) n h)) (decided w (after s c) cs))
-    (test (goes_inside w s c))
+decided w s (c ∷ cs) = let x = decided w (after s c) cs in let y = test (goes_inside w s c) in grind arith
 
 pub tells : (s : State) (w : ℕ) → IsReached s → Tells s w (way_answer s w)
 tells s w reached wait =
     let told : Origin s → (T (has_way s w) ↔ RightOfWay s w) = λ p. (law s p.high p.number p.wanted p.regs p.calls p.leads).told w wait in
-    let parts = and_T (is_arm s w) (is_in P.W s w) wait in
-    let here : refusal_of s (Way w) ≡ None = cond_on (is_arm s w) (way_refusal (phase_at s w)) _ parts.0 ∙ way_accepted (phase_at s w) parts.1 in
+    let here : refusal_of s (Way w) ≡ None = grind arith in
     let is : way_answer s w ≡ Ok (has_way s w) = ap (λ r. answered r (has_way s w)) here in
     let yes = yes_is (has_way s w) in (
       (λ a cs steps alone. ⊎_elim (λ g. g) (λ n. absurd (not_there reached (λ p. n ((told p).0 (yes.0 (sym is ∙ a)) cs steps alone)))) (decided w s cs)),

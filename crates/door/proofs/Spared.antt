@@ -1,8 +1,6 @@
 -- A step touches no register but the one of its access.
-use Rattle.std.proofs.Common.{◌≡◌, ℕ, ◌-◌, List, get_or, set, Some, None, Option, sym, refl, ap, ◌∙◌}
+use Rattle.std.proofs.Common.{◌≡◌, ℕ, ◌-◌, List, get_or, set, Option, sym, refl, ap, ◌∙◌, arith}
 use Rattle.std.proofs.lemmas.List.{get_or-set_other}
-use Rattle.std.proofs.lemmas.Bool.{cond_both}
-use Rattle.bank.specs.Registers.{can_hold}
 use Rattle.door.specs.Accesses.{Spares, OneAccess}
 use Rattle.door.specs.Arms.{advanced}
 use Rattle.door.specs.Calls.{refusal_of, done, after, unless, access_at}
@@ -10,22 +8,17 @@ use Rattle.door.specs.Positions.{phase_of, regs_after}
 use Rattle.door.specs.States.{State, arm_at, phase_at, with_table}
 use Rattle.door.specs.Tallies.{tallied}
 use Rattle.door.specs.declared.access.Access.{Access}
-use Rattle.door.specs.declared.access.Access.TheVariants.{Nothing, Read, Write}
 use Rattle.door.specs.declared.arm.Arm.{Arm}
 use Rattle.door.specs.declared.call.Call.TheVariants.{Step as step}
 use Rattle.door.specs.declared.refusal.Refusal.{Refusal}
 use Rattle.door.proofs.Accepted.{unless_both}
 
 spared : (high : ℕ) (regs : List ℕ) (a : Access) (q : ℕ) → Spares a q → get_or (regs_after high regs a) q 0 ≡ get_or regs q 0
-spared high regs Nothing q h = refl
-spared high regs (Read r) q h = refl
-spared high regs (Write r v) q h =
-    cond_both (can_hold high regs r v) _ _ (λ rs. get_or rs q 0 ≡ get_or regs q 0) (λ _. get_or-set_other regs r q v 0 h) (λ _. refl)
+spared high regs a q h = grind (arith, get_or-set_other)
 
 -- the same records, refused or not
 unless_arms : (r : Option Refusal) (x y x' y' : State) → x.arms ≡ x'.arms → y.arms ≡ y'.arms → (unless r x y).arms ≡ (unless r x' y').arms
-unless_arms None x y x' y' new old = new
-unless_arms (Some r) x y x' y' new old = old
+unless_arms r x y x' y' new old = grind arith
 
 -- the records after a step that read v
 abbrev arms_having_read : State → ℕ → ℕ → List Arm

@@ -1,20 +1,17 @@
 -- The invariant of the machine: who is inside, and what a waiting arm has passed.
-use Rattle.std.proofs.Common.{◌≡◌, ℕ, ◌+◌, ◌≤◌, Bool, true, false, not, T, eqb, ltb, ◌≢◌, ◌⊎◌, sym, refl, subst, inl, inr, ⊎_elim, arith, eqb→eq, ltb→lt, nltb→le}
-use Rattle.std.proofs.lemmas.Bool.{cases_eq}
+use Rattle.std.proofs.Common.{◌≡◌, ℕ, ◌≤◌, Bool, true, false, not, T, eqb, ◌⊎◌, sym, refl, subst, ⊎_elim, arith, eqb→eq}
+use Rattle.std.proofs.lemmas.Bool.Decides.{nat_tests}
 use Rattle.door.specs.declared.position.Phase.TheVariants as P
 use Rattle.door.specs.declared.position.Place.{Place}
-use Rattle.door.specs.declared.position.Place.TheVariants.{W1, W2, W3, W4, W5, W6}
-use Rattle.door.proofs.Bools.{same, same_refl, same_sym, same_trans, opposite, differ, same_swap, sides_agree, test, clash, contra, by}
-use Rattle.door.proofs.machine.Machine.{Stance, idle, d1, d2, d3, d4, d5, waits, inside, x1, x2, at, has, choosing, mygroup, flag, next, step_waiting, outcome, step_arm, begin_arm, admit_arm, leave_arm, turn_step, Move, begin, step, admit, leave, act, turn, without_access, changed, Machine, moved_to, moved}
+use Rattle.door.specs.declared.position.Place.TheVariants.{W1, W2, W4, W5, W6}
+use Rattle.door.proofs.Bools.{same, same_refl, test, by}
+use Rattle.door.proofs.machine.Machine.{Stance, waits, inside, x1, x2, at, has, choosing, step_waiting, step_arm, turn_step, Move, step, act, turn, changed, Machine, moved_to, moved}
 
 -- a place past W2
 abbrev pub late : Place → Bool
 late W1 = false
 late W2 = false
-late W3 = true
-late W4 = true
-late W5 = true
-late W6 = true
+late p = true
 
 -- no arm has the side other than s, or the group differs from s
 abbrev pub Free : Bool → (ℕ → Stance) → Bool → Type 0
@@ -25,16 +22,11 @@ abbrev pub Passed : Bool → (ℕ → Stance) → Bool → ℕ → Place → Typ
 Passed β arms s j p = T (same β s) → (b : ℕ) → T (has (not s) (arms b)) → (j ≤ b) × (T (late p) → b ≡ j → T (not (choosing (arms b))))
 
 abbrev pub Own : ℕ → Bool → (ℕ → Stance) → Stance → Type 0
-Own n β arms (idle g) = Unit {0}
-Own n β arms (d1 g) = Unit {0}
-Own n β arms (d2 g) = Unit {0}
-Own n β arms (d3 s g) = Unit {0}
-Own n β arms (d4 s) = Unit {0}
-Own n β arms (d5 s) = Unit {0}
 Own n β arms (waits s j p) = (1 ≤ j) × (j ≤ n) × Passed β arms s j p
 Own n β arms (inside s o) = Free β arms s
 Own n β arms (x1 s) = Free β arms s
 Own n β arms (x2 s) = T (same β (not s))
+Own n β arms a = Unit {0}
 
 abbrev pub Ranged : ℕ → (ℕ → Stance) → Type 0
 Ranged n arms = (k : ℕ) (t : Bool) → T (has t (arms k)) → (1 ≤ k) × (k ≤ n)
@@ -44,25 +36,15 @@ abbrev pub Awake : ℕ → (ℕ → Stance) → Type 0
 Awake n arms = (k : ℕ) → T (not (at P.I (arms k))) → (1 ≤ k) × (k ≤ n)
 
 abbrev pub far : Place → Bool
-far W1 = false
-far W2 = false
-far W3 = false
 far W4 = true
 far W5 = true
 far W6 = true
+far p = false
 
 -- at its own index an arm waits at W1 to W3 only
 abbrev pub Home : ℕ → Stance → Type 0
-Home k (idle g) = Unit {0}
-Home k (d1 g) = Unit {0}
-Home k (d2 g) = Unit {0}
-Home k (d3 s g) = Unit {0}
-Home k (d4 s) = Unit {0}
-Home k (d5 s) = Unit {0}
 Home k (waits s j p) = j ≡ k → T (not (far p))
-Home k (inside s o) = Unit {0}
-Home k (x1 s) = Unit {0}
-Home k (x2 s) = Unit {0}
+Home k a = Unit {0}
 
 pub record Inv (g : Machine) : Type 0 where
   pub home : (k : ℕ) → Home k (g.arms k)
@@ -70,194 +52,66 @@ pub record Inv (g : Machine) : Type 0 where
   pub range : Ranged g.n g.arms
   pub own : (k : ℕ) → Own g.n g.group g.arms (g.arms k)
 
--- what a register says
-pub no_side_grp : (a : Stance) (s : Bool) → T (same (mygroup a) s) → T (not (choosing a)) → T (has (not s) a) → ⊥
-no_side_grp a s g c h = grind arith
-
-pub no_side_flag : (a : Stance) (s : Bool) → T (not (flag a)) → T (not (choosing a)) → T (has s a) → ⊥
-no_side_flag a s f c h = grind arith
-
+-- before its first exit step
 abbrev pub at_x1 : Stance → Bool
-at_x1 (idle g) = false
-at_x1 (d1 g) = false
-at_x1 (d2 g) = false
-at_x1 (d3 s g) = false
-at_x1 (d4 s) = false
-at_x1 (d5 s) = false
-at_x1 (waits s j p) = false
-at_x1 (inside s o) = false
 at_x1 (x1 s) = true
-at_x1 (x2 s) = false
+at_x1 a = false
 
 -- the step of a waiting arm keeps what it has passed, and an arm goes inside only while it is free to
 module _ (n : ℕ) (β : Bool) (arms : ℕ → Stance) (range : Ranged n arms) where
-  next_own : (s : Bool) (j : ℕ) → 1 ≤ j → j ≤ n → (T (same β s) → (b : ℕ) → T (has (not s) (arms b)) → j + 1 ≤ b) → Own n β arms (next n s j)
-  next_own s j lo hi past =
-      by (Own n β arms) (ltb j n) (waits s (j + 1) W1) (inside s false)
-      (λ d. (omega arith, (let r = ltb→lt j n d in omega arith), (λ q b h. (past q b h, (λ l. absurd l)))))
-      (λ e k h. ⊎_elim (λ q. absurd (let r = nltb→le j n e in let x = past q k h in let y = range k (not s) h in omega arith)) (differ β s) (test (same β s)))
-
-  -- arm j is not the one: what stands at or past j stands past it
-  past_j : (s : Bool) (j : ℕ) (p : Place) → Passed β arms s j p → (T (same β s) → T (has (not s) (arms j)) → ⊥) → T (same β s) → (b : ℕ) → T (has (not s) (arms b)) → j + 1 ≤ b
-  past_j s j p past none q b h =
-      ⊎_elim (λ e. absurd (none q (subst (λ x. T (has (not s) (arms x))) e h))) (λ d. let x = (past q b h).0 in let d' : b ≢ j = d in omega arith) (cases_eq b j)
-
   pub wait_own : (s : Bool) (j : ℕ) (p : Place) → Own n β arms (waits s j p) → Own n β arms (step_waiting n β (arms j) s j p)
-  wait_own s j W1 (lo, hi, past) =
-      by (Own n β arms) (same β s) (waits s j W2) (inside s false) (λ q. (lo, hi, past)) (λ d k h. differ β s d)
-  wait_own s j W2 (lo, hi, past) =
-      by (Own n β arms) (choosing (arms j)) (waits s j W2) (waits s j W3) (λ q. (lo, hi, past))
-      (λ d. (lo, hi, (λ q b h. ((past q b h).0, (λ l e. subst (λ x. T (not (choosing (arms x)))) (sym e) d)))))
-  wait_own s j W3 (lo, hi, past) =
-      by (Own n β arms) (same (mygroup (arms j)) s) (next n s j) (waits s j W4)
-      (λ e. next_own s j lo hi (past_j s j W3 past (λ q h. no_side_grp (arms j) s e ((past q j h).1 tt refl) h)))
-      (λ d. (lo, hi, past))
-  wait_own s j W4 (lo, hi, past) =
-      by (Own n β arms) (flag (arms j)) (waits s j W5) (next n s j)
-      (λ d. (lo, hi, past))
-      (λ e. next_own s j lo hi (past_j s j W4 past (λ q h. no_side_flag (arms j) (not s) e ((past q j h).1 tt refl) h)))
-  wait_own s j W5 (lo, hi, past) =
-      by (Own n β arms) (same β s) (waits s j W6) (next n s j)
-      (λ d. (lo, hi, past))
-      (λ e. next_own s j lo hi (λ q. absurd (clash (same β s) q e)))
-  wait_own s j W6 (lo, hi, past) =
-      by (Own n β arms) (same (mygroup (arms j)) s) (next n s j) (waits s j W4)
-      (λ e. next_own s j lo hi (past_j s j W6 past (λ q h. no_side_grp (arms j) s e ((past q j h).1 tt refl) h)))
-      (λ d. (lo, hi, past))
+  wait_own s j W1 (lo, hi, past) = grind (arith, past)
+  wait_own s j p (lo, hi, past) = grind (arith, nat_tests, range, past)
 
   -- a move of an arm not in X1, seen with the arms as they were
   step_own : 1 ≤ n → (a : Stance) → T (not (at_x1 a)) → Own n β arms a → Own n β arms (step_arm n β arms a)
-  step_own pos (idle g) d h = tt
-  step_own pos (d1 g) d h = tt
-  step_own pos (d2 g) d h = tt
-  step_own pos (d3 s g) d h = tt
-  step_own pos (d4 s) d h = tt
-  step_own pos (d5 s) d h = (omega arith, pos, (λ q b k. ((range b (not s) k).0, (λ l. absurd l))))
   step_own pos (waits s j p) d h = wait_own s j p h
-  step_own pos (inside s o) d h = h
-  step_own pos (x1 s) d h = absurd d
-  step_own pos (x2 s) d h = tt
-
-without_own : (n : ℕ) (β : Bool) (arms : ℕ → Stance) (a : Stance)
-    → (Own n β arms a → Own n β arms (begin_arm a)) × (Own n β arms a → Own n β arms (admit_arm a)) × (Own n β arms a → Own n β arms (leave_arm a))
-without_own n β arms = without_access (λ a a'. Own n β arms a → Own n β arms a') (λ a h. h) (λ g h. tt) (λ s o h. h) (λ s h. h)
+  step_own pos a d h = grind (arith, range)
 
 -- what a move can do to its arm, as the others see it: a side it has it had, and it chooses only if it did; or the side is the group
 abbrev pub Seen : Bool → Stance → Stance → Type 0
 Seen β a a' = (t : Bool) → T (has t a') → (T (has t a) × (T (choosing a') → T (choosing a))) ⊎ T (same t β)
 
-seen_same : (β : Bool) (a : Stance) → Seen β a a
-seen_same β a t h = inl (h, λ x. x)
-
-seen_step : (n : ℕ) (β : Bool) (arms : ℕ → Stance) (a : Stance) → Seen β a (step_arm n β arms a)
-seen_step n β arms (idle g) = λ t h. absurd h
-seen_step n β arms (d1 g) = λ t h. absurd h
-seen_step n β arms (d2 g) = λ t h. inr h
-seen_step n β arms (d3 s g) = λ t h. inl (h, λ x. x)
-seen_step n β arms (d4 s) = λ t h. inl (h, λ x. x)
-seen_step n β arms (d5 s) = λ t h. inl (h, λ x. tt)
-seen_step n β arms (waits s j p) = outcome (Seen β (waits s j p)) n β (arms j) s (λ j p t h. inl (h, λ x. x)) (λ t h. inl (h, λ x. x)) j p
-seen_step n β arms (inside s o) = λ t h. inl (h, λ x. x)
-seen_step n β arms (x1 s) = λ t h. inl (h, λ x. x)
-seen_step n β arms (x2 s) = λ t h. absurd h
-
 pub seen_act : (m : Move) (n : ℕ) (β : Bool) (arms : ℕ → Stance) (a : Stance) → Seen β a (act m n β arms a)
-seen_act begin n β arms a t h = inl (grind arith)
-seen_act step n β arms a t h = seen_step n β arms a t h
-seen_act admit n β arms a t h = inl (grind arith)
-seen_act leave n β arms a t h = inl (grind arith)
+seen_act m n β arms a t h = grind arith
 
 -- the others' facts last while the group does
 keep : (n : ℕ) (β : Bool) (arms arms' : ℕ → Stance) → ((k : ℕ) → Seen β (arms k) (arms' k)) → (a : Stance) → Own n β arms a → Own n β arms' a
-keep n β arms arms' seen (idle g) h = tt
-keep n β arms arms' seen (d1 g) h = tt
-keep n β arms arms' seen (d2 g) h = tt
-keep n β arms arms' seen (d3 s g) h = tt
-keep n β arms arms' seen (d4 s) h = tt
-keep n β arms arms' seen (d5 s) h = tt
-keep n β arms arms' seen (waits s j p) h = (h.0, h.1, λ q b hb. ⊎_elim (λ x. ((h.2 q b x.0).0, λ l e. contra (choosing (arms b)) (choosing (arms' b)) x.1 ((h.2 q b x.0).1 l e))) (λ y. absurd (opposite β s q y)) (seen b (not s) hb))
-keep n β arms arms' seen (inside s o) h = λ k hk. ⊎_elim (λ x. h k x.0) (λ y. same_sym (not s) β y) (seen k (not s) hk)
-keep n β arms arms' seen (x1 s) h = λ k hk. ⊎_elim (λ x. h k x.0) (λ y. same_sym (not s) β y) (seen k (not s) hk)
-keep n β arms arms' seen (x2 s) h = h
+keep n β arms arms' seen a h = grind (arith, seen)
 
 -- a step of X1 that turns the group
 abbrev pub turns : Move → Stance → Bool
-turns begin a = false
 turns step a = at_x1 a
-turns admit a = false
-turns leave a = false
+turns m a = false
 
 pub turn_same : (m : Move) (β : Bool) (a : Stance) → T (not (turns m a)) → turn m β a ≡ β
-turn_same begin β a d = refl
-turn_same step β a d = go a d
-  where
-    go : (a : Stance) → T (not (at_x1 a)) → turn_step β a ≡ β
-    go (idle g) d = refl
-    go (d1 g) d = refl
-    go (d2 g) d = refl
-    go (d3 s g) d = refl
-    go (d4 s) d = refl
-    go (d5 s) d = refl
-    go (waits s j p) d = refl
-    go (inside s o) d = refl
-    go (x1 s) d = absurd d
-    go (x2 s) d = refl
-turn_same admit β a d = refl
-turn_same leave β a d = refl
+turn_same m β a d = grind arith
 
 pub act_own : (m : Move) (n : ℕ) (β : Bool) (arms : ℕ → Stance) → Ranged n arms → 1 ≤ n → (a : Stance) → T (not (turns m a)) → Own n β arms a → Own n β arms (act m n β arms a)
-act_own begin n β arms range pos a d h = (without_own n β arms a).0 h
-act_own step n β arms range pos a d h = step_own n β arms range pos a d h
-act_own admit n β arms range pos a d h = (without_own n β arms a).1 h
-act_own leave n β arms range pos a d h = (without_own n β arms a).2 h
+act_own m n β arms range pos a d h = let x = step_own n β arms range pos a in grind arith
 
 pub changed_seen : (β : Bool) (arms : ℕ → Stance) (i : ℕ) (a : Stance) → Seen β (arms i) a → (k : ℕ) → Seen β (arms k) (changed arms i a k)
-changed_seen β arms i a h k =
-    by (Seen β (arms k)) (eqb k i) a (arms k) (λ e. subst (λ x. Seen β (arms x) a) (sym (eqb→eq k i e)) h) (λ d. seen_same β (arms k))
+changed_seen β arms i a h k t x = grind (arith, nat_tests)
 
 pub changed_range : (n : ℕ) (arms : ℕ → Stance) (i : ℕ) (a : Stance) → 1 ≤ i → i ≤ n → Ranged n arms → Ranged n (changed arms i a)
-changed_range n arms i a lo hi range k t =
-    by (λ x. T (has t x) → (1 ≤ k) × (k ≤ n)) (eqb k i) a (arms k) (λ e h. let r = eqb→eq k i e in omega arith) (λ d h. range k t h)
+changed_range n arms i a lo hi range k t h = let r = range k t in grind (arith, nat_tests)
 
 pub changed_awake : (n : ℕ) (arms : ℕ → Stance) (i : ℕ) (a : Stance) → 1 ≤ i → i ≤ n → Awake n arms → Awake n (changed arms i a)
-changed_awake n arms i a lo hi range k =
-    by (λ x. T (not (at P.I x)) → (1 ≤ k) × (k ≤ n)) (eqb k i) a (arms k) (λ e h. let r = eqb→eq k i e in omega arith) (λ d h. range k h)
-
-next_home : (n k : ℕ) (s : Bool) (j : ℕ) → Home k (next n s j)
-next_home n k s j = by (Home k) (ltb j n) (waits s (j + 1) W1) (inside s false) (λ q r. tt) (λ q. tt)
+changed_awake n arms i a lo hi awake k h = let r = awake k in grind (arith, nat_tests)
 
 wait_home : (n : ℕ) (β : Bool) (arms : ℕ → Stance) (i : ℕ) (s : Bool) (j : ℕ) (p : Place) → arms i ≡ waits s j p → Home i (waits s j p) → Home i (step_waiting n β (arms j) s j p)
-wait_home n β arms i s j W1 e h = by (Home i) (same β s) (waits s j W2) (inside s false) (λ q r. tt) (λ q. tt)
-wait_home n β arms i s j W2 e h = by (Home i) (choosing (arms j)) (waits s j W2) (waits s j W3) (λ q r. tt) (λ q r. tt)
-wait_home n β arms i s j W3 e h = by (Home i) (same (mygroup (arms j)) s) (next n s j) (waits s j W4) (λ q. next_home n i s j)
-    (λ d r. absurd (clash (same s s) (same_refl s) (subst (λ y. T (not (same (mygroup y) s))) e (subst (λ y. T (not (same (mygroup (arms y)) s))) r d))))
-wait_home n β arms i s j W4 e h = by (Home i) (flag (arms j)) (waits s j W5) (next n s j) (λ q r. h r) (λ q. next_home n i s j)
-wait_home n β arms i s j W5 e h = by (Home i) (same β s) (waits s j W6) (next n s j) (λ q r. h r) (λ q. next_home n i s j)
-wait_home n β arms i s j W6 e h = by (Home i) (same (mygroup (arms j)) s) (next n s j) (waits s j W4) (λ q. next_home n i s j) (λ q r. h r)
-
-step_home : (n : ℕ) (β : Bool) (arms : ℕ → Stance) (i : ℕ) (a : Stance) → arms i ≡ a → Home i a → Home i (step_arm n β arms a)
-step_home n β arms i (idle g) e h = tt
-step_home n β arms i (d1 g) e h = tt
-step_home n β arms i (d2 g) e h = tt
-step_home n β arms i (d3 s g) e h = tt
-step_home n β arms i (d4 s) e h = tt
-step_home n β arms i (d5 s) e h = λ q. tt
-step_home n β arms i (waits s j p) e h = wait_home n β arms i s j p e h
-step_home n β arms i (inside s o) e h = tt
-step_home n β arms i (x1 s) e h = tt
-step_home n β arms i (x2 s) e h = tt
-
-without_home : (i : ℕ) (a : Stance) → (Home i a → Home i (begin_arm a)) × (Home i a → Home i (admit_arm a)) × (Home i a → Home i (leave_arm a))
-without_home i = without_access (λ a a'. Home i a → Home i a') (λ a h. h) (λ g h. tt) (λ s o h. tt) (λ s h. tt)
+wait_home n β arms i s j W1 e h = grind arith
+wait_home n β arms i s j p e h = grind arith
 
 act_home : (m : Move) (n : ℕ) (β : Bool) (arms : ℕ → Stance) (i : ℕ) → Home i (arms i) → Home i (act m n β arms (arms i))
-act_home begin n β arms i h = (without_home i (arms i)).0 h
-act_home step n β arms i h = step_home n β arms i (arms i) refl h
-act_home admit n β arms i h = (without_home i (arms i)).1 h
-act_home leave n β arms i h = (without_home i (arms i)).2 h
+act_home m n β arms i h = go m (arms i) refl h
+  where
+    go : (m : Move) (a : Stance) → arms i ≡ a → Home i a → Home i (act m n β arms a)
+    go step (waits s j p) e h = wait_home n β arms i s j p e h
+    go m a e h = grind arith
 
 changed_home : (arms : ℕ → Stance) (i : ℕ) (a : Stance) → Home i a → ((k : ℕ) → Home k (arms k)) → (k : ℕ) → Home k (changed arms i a k)
-changed_home arms i a h old k = by (Home k) (eqb k i) a (arms k) (λ q. subst (λ y. Home y a) (sym (eqb→eq k i q)) h) (λ q. old k)
+changed_home arms i a h old k = let x = old k in grind (arith, nat_tests)
 
 inv_still : (g : Machine) → Inv g → (m : Move) (i : ℕ) → 1 ≤ i → i ≤ g.n → T (not (turns m (g.arms i))) →
     Inv (moved_to g g.group i (act m g.n g.group g.arms (g.arms i)))
@@ -277,41 +131,25 @@ inv_still g inv m i lo hi d =
 module _ (n : ℕ) (β t : Bool) (arms : ℕ → Stance) (i : ℕ) (e : arms i ≡ x1 t) (free : Free β arms t) where
   -- x1 t and x2 t look the same to the others
   look_back : (k : ℕ) (u : Bool) → T (has u (changed arms i (x2 t) k)) → T (has u (arms k)) × (T (choosing (changed arms i (x2 t) k)) → T (choosing (arms k)))
-  look_back k u =
-      by (λ x. T (has u x) → T (has u (arms k)) × (T (choosing x) → T (choosing (arms k)))) (eqb k i) (x2 t) (arms k)
-      (λ q h. (subst (λ y. T (has u (arms y))) (sym (eqb→eq k i q)) (subst (λ y. T (has u y)) (sym e) h), (λ l. absurd l)))
-      (λ d h. (h, λ l. l))
+  look_back k u = let r = eqb→eq k i in grind (arith, nat_tests)
 
   turn_other : (k : ℕ) (a : Stance) → arms k ≡ a → Own n β arms a → Own n (not t) (changed arms i (x2 t)) a
-  turn_other k (idle g) q h = tt
-  turn_other k (d1 g) q h = tt
-  turn_other k (d2 g) q h = tt
-  turn_other k (d3 s g) q h = tt
-  turn_other k (d4 s) q h = tt
-  turn_other k (d5 s) q h = tt
   turn_other k (waits s j p) q h = (
     h.0,
     h.1,
     λ c b hb.
         let old = look_back b (not s) hb in
-        let c' = same_trans β (not t) s (free k (subst (λ y. T (has (not t) y)) (sym q) c)) c in
-        ((h.2 c' b old.0).0, λ l r. contra (choosing (arms b)) (choosing (changed arms i (x2 t) b)) old.1 ((h.2 c' b old.0).1 l r)),
+        let f = free k in
+        let c' : T (same β s) = grind arith in
+        let r = h.2 c' b old.0 in
+        grind arith,
   )
-  turn_other k (inside s o) q h = λ k' hk. sides_agree β t s (λ o. free k (subst (λ y. T (has (not t) y)) (sym q) o)) (λ o. h i (subst (λ y. T (has (not s) y)) (sym e) (same_swap t s o)))
-  turn_other k (x1 s) q h = λ k' hk. sides_agree β t s (λ o. free k (subst (λ y. T (has (not t) y)) (sym q) o)) (λ o. h i (subst (λ y. T (has (not s) y)) (sym e) (same_swap t s o)))
-  turn_other k (x2 s) q h = sides_agree β t s (λ o. free k (subst (λ y. T (has (not t) y)) (sym q) o)) (λ o. h)
+  turn_other k (inside s o) q h = λ k' hk. let f = free k in let r = h i in grind arith
+  turn_other k (x1 s) q h = λ k' hk. let f = free k in let r = h i in grind arith
+  turn_other k a q h = let f = free k in grind arith
 
 inv_turn : (g : Machine) → Inv g → (i : ℕ) (a : Stance) → g.arms i ≡ a → T (at_x1 a) → 1 ≤ i → i ≤ g.n →
     Inv (moved_to g (turn_step g.group a) i (step_arm g.n g.group g.arms a))
-inv_turn g inv i (idle x) e x' lo hi = absurd x'
-inv_turn g inv i (d1 x) e x' lo hi = absurd x'
-inv_turn g inv i (d2 x) e x' lo hi = absurd x'
-inv_turn g inv i (d3 s x) e x' lo hi = absurd x'
-inv_turn g inv i (d4 s) e x' lo hi = absurd x'
-inv_turn g inv i (d5 s) e x' lo hi = absurd x'
-inv_turn g inv i (waits s j p) e x' lo hi = absurd x'
-inv_turn g inv i (inside s o) e x' lo hi = absurd x'
-inv_turn g inv i (x2 s) e x' lo hi = absurd x'
 inv_turn g inv i (x1 t) e x' lo hi =
     let free : Free g.group g.arms t = subst (λ y. Own g.n g.group g.arms y) e (inv.own i) in
     record {
@@ -322,13 +160,12 @@ inv_turn g inv i (x1 t) e x' lo hi =
           (λ q. same_refl (not t))
           (λ d. turn_other g.n g.group t g.arms i e free k (g.arms k) refl (inv.own k));
     }
+inv_turn g inv i a e x' lo hi = absurd x'
 
 -- every move keeps the invariant
 pub inv_moved : (g : Machine) → Inv g → (m : Move) (i : ℕ) → 1 ≤ i → i ≤ g.n → Inv (moved g m i)
-inv_moved g inv begin i lo hi = inv_still g inv begin i lo hi tt
-inv_moved g inv admit i lo hi = inv_still g inv admit i lo hi tt
-inv_moved g inv leave i lo hi = inv_still g inv leave i lo hi tt
 inv_moved g inv step i lo hi = ⊎_elim
     (λ x. inv_turn g inv i (g.arms i) refl x lo hi)
     (λ d. subst (λ b. Inv (moved_to g b i (step_arm g.n g.group g.arms (g.arms i)))) (sym (turn_same step g.group (g.arms i) d)) (inv_still g inv step i lo hi d))
     (test (at_x1 (g.arms i)))
+inv_moved g inv m i lo hi = inv_still g inv m i lo hi tt

@@ -1,6 +1,6 @@
 -- The machine that a gate mirrors: what the registers say of an arm is part of the arm's own state.
-use Rattle.std.proofs.Common.{◌≡◌, ℕ, ◌+◌, Bool, true, false, cond, not, ◌&&◌, eqb, ltb, ◌≢◌, Some, None, Option}
-use lib.Dec.{eqb_refl}
+use Rattle.std.proofs.Common.{◌≡◌, ℕ, ◌+◌, Bool, true, false, cond, not, ◌&&◌, eqb, ltb, ◌≢◌, Some, None, Option, arith}
+use Rattle.std.proofs.lemmas.Bool.Decides.{nat_tests}
 use Rattle.door.specs.Positions.{phase_of}
 use Rattle.door.specs.Tallies.{same_phase}
 use Rattle.door.specs.declared.position.Doorway.TheVariants.{D1, D2, D3, D4, D5}
@@ -11,7 +11,7 @@ use Rattle.door.specs.declared.position.Place.{Place}
 use Rattle.door.specs.declared.position.Place.TheVariants.{W1, W2, W3, W4, W5, W6}
 use Rattle.door.specs.declared.position.Position.{Position}
 use Rattle.door.specs.declared.position.Position.TheVariants.{Idle, Doorway, Waiting, Inside, Leaving}
-use Rattle.door.proofs.Bools.{same, by, cond_on, cond_off, test_ne}
+use Rattle.door.proofs.Bools.{same, by}
 
 -- an arm: its position, its side, and what its mygroup register holds where that is not its side
 pub data Stance : Type 0 where
@@ -40,9 +40,6 @@ at p a = same_phase (phase_of (position a)) p
 
 -- the side, from the end of D2 to the end of X2
 abbrev pub side : Stance → Option Bool
-side (idle g) = None
-side (d1 g) = None
-side (d2 g) = None
 side (d3 s g) = Some s
 side (d4 s) = Some s
 side (d5 s) = Some s
@@ -50,6 +47,7 @@ side (waits s j p) = Some s
 side (inside s o) = Some s
 side (x1 s) = Some s
 side (x2 s) = Some s
+side a = None
 
 abbrev pub is_side : Bool → Option Bool → Bool
 is_side t (Some s) = same t s
@@ -61,29 +59,16 @@ has t a = is_side t (side a)
 
 -- whether its pass is out
 abbrev pub out : Stance → Bool
-out (idle g) = false
-out (d1 g) = false
-out (d2 g) = false
-out (d3 s g) = false
-out (d4 s) = false
-out (d5 s) = false
-out (waits s j p) = false
 out (inside s o) = o
-out (x1 s) = false
-out (x2 s) = false
+out a = false
 
 -- its three registers
 abbrev pub choosing : Stance → Bool
-choosing (idle g) = false
-choosing (d1 g) = false
 choosing (d2 g) = true
 choosing (d3 s g) = true
 choosing (d4 s) = true
 choosing (d5 s) = true
-choosing (waits s j p) = false
-choosing (inside s o) = false
-choosing (x1 s) = false
-choosing (x2 s) = false
+choosing a = false
 
 abbrev pub mygroup : Stance → Bool
 mygroup (idle g) = g
@@ -98,16 +83,12 @@ mygroup (x1 s) = s
 mygroup (x2 s) = s
 
 abbrev pub flag : Stance → Bool
-flag (idle g) = false
-flag (d1 g) = false
-flag (d2 g) = false
-flag (d3 s g) = false
-flag (d4 s) = false
 flag (d5 s) = true
 flag (waits s j p) = true
 flag (inside s o) = true
 flag (x1 s) = true
 flag (x2 s) = true
+flag a = false
 
 -- a waiting arm's step: β is the group, b the arm at its index
 abbrev pub next : ℕ → Bool → ℕ → Stance
@@ -148,69 +129,32 @@ step_arm n β arms (x2 s) = idle s
 
 -- the group after it
 abbrev pub turn_step : Bool → Stance → Bool
-turn_step β (idle g) = β
-turn_step β (d1 g) = β
-turn_step β (d2 g) = β
-turn_step β (d3 s g) = β
-turn_step β (d4 s) = β
-turn_step β (d5 s) = β
-turn_step β (waits s j p) = β
-turn_step β (inside s o) = β
 turn_step β (x1 s) = not s
-turn_step β (x2 s) = β
+turn_step β a = β
 
 -- the other moves, of an arm that may make them
 abbrev pub begin_arm : Stance → Stance
 begin_arm (idle g) = d1 g
-begin_arm (d1 g) = d1 g
-begin_arm (d2 g) = d2 g
-begin_arm (d3 s g) = d3 s g
-begin_arm (d4 s) = d4 s
-begin_arm (d5 s) = d5 s
-begin_arm (waits s j p) = waits s j p
-begin_arm (inside s o) = inside s o
-begin_arm (x1 s) = x1 s
-begin_arm (x2 s) = x2 s
+begin_arm a = a
 
 abbrev pub admit_arm : Stance → Stance
-admit_arm (idle g) = idle g
-admit_arm (d1 g) = d1 g
-admit_arm (d2 g) = d2 g
-admit_arm (d3 s g) = d3 s g
-admit_arm (d4 s) = d4 s
-admit_arm (d5 s) = d5 s
-admit_arm (waits s j p) = waits s j p
 admit_arm (inside s o) = inside s true
-admit_arm (x1 s) = x1 s
-admit_arm (x2 s) = x2 s
+admit_arm a = a
 
 abbrev pub leave_arm : Stance → Stance
-leave_arm (idle g) = idle g
-leave_arm (d1 g) = d1 g
-leave_arm (d2 g) = d2 g
-leave_arm (d3 s g) = d3 s g
-leave_arm (d4 s) = d4 s
-leave_arm (d5 s) = d5 s
-leave_arm (waits s j p) = waits s j p
 leave_arm (inside s true) = x1 s
-leave_arm (inside s false) = inside s false
-leave_arm (x1 s) = x1 s
-leave_arm (x2 s) = x2 s
+leave_arm a = a
 
 pub data Move : Type 0 where
   begin step admit leave : Move
 
 abbrev pub is_step : Move → Bool
-is_step begin = false
 is_step step = true
-is_step admit = false
-is_step leave = false
+is_step m = false
 
 abbrev pub is_begin : Move → Bool
 is_begin begin = true
-is_begin step = false
-is_begin admit = false
-is_begin leave = false
+is_begin m = false
 
 abbrev pub act : Move → ℕ → Bool → (ℕ → Stance) → Stance → Stance
 act begin n β arms a = begin_arm a
@@ -219,10 +163,8 @@ act admit n β arms a = admit_arm a
 act leave n β arms a = leave_arm a
 
 abbrev pub turn : Move → Bool → Stance → Bool
-turn begin β a = β
 turn step β a = turn_step β a
-turn admit β a = β
-turn leave β a = β
+turn m β a = β
 
 -- which moves an arm may make
 abbrev pub may_step : Stance → Bool
@@ -234,31 +176,15 @@ allowed step a = may_step a
 allowed admit a = at P.F a && not (out a)
 allowed leave a = out a
 
--- what holds of an arm left alone and of the three moves without an access holds of begin, admit and leave
-pub without_access : (P : Stance → Stance → Type 0) → ((a : Stance) → P a a) → ((g : Bool) → P (idle g) (d1 g))
-    → ((s o : Bool) → P (inside s o) (inside s true)) → ((s : Bool) → P (inside s true) (x1 s))
-    → (a : Stance) → P a (begin_arm a) × P a (admit_arm a) × P a (leave_arm a)
-without_access P h begins admits leaves (idle g) = (begins g, h (idle g), h (idle g))
-without_access P h begins admits leaves (d1 g) = (h (d1 g), h (d1 g), h (d1 g))
-without_access P h begins admits leaves (d2 g) = (h (d2 g), h (d2 g), h (d2 g))
-without_access P h begins admits leaves (d3 s g) = (h (d3 s g), h (d3 s g), h (d3 s g))
-without_access P h begins admits leaves (d4 s) = (h (d4 s), h (d4 s), h (d4 s))
-without_access P h begins admits leaves (d5 s) = (h (d5 s), h (d5 s), h (d5 s))
-without_access P h begins admits leaves (waits s j p) = (h (waits s j p), h (waits s j p), h (waits s j p))
-without_access P h begins admits leaves (inside s true) = (h (inside s true), admits s true, leaves s)
-without_access P h begins admits leaves (inside s false) = (h (inside s false), admits s false, h (inside s false))
-without_access P h begins admits leaves (x1 s) = (h (x1 s), h (x1 s), h (x1 s))
-without_access P h begins admits leaves (x2 s) = (h (x2 s), h (x2 s), h (x2 s))
-
 -- a function changed at one place
 abbrev pub changed : (ℕ → Stance) → ℕ → Stance → ℕ → Stance
 changed f i a k = cond (eqb k i) a (f k)
 
 pub changed_same : (f : ℕ → Stance) (i : ℕ) (a : Stance) → changed f i a i ≡ a
-changed_same f i a = cond_on (eqb i i) a (f i) (eqb_refl i)
+changed_same f i a = grind (arith, nat_tests)
 
 pub changed_other : (f : ℕ → Stance) (i : ℕ) (a : Stance) (k : ℕ) → k ≢ i → changed f i a k ≡ f k
-changed_other f i a k ne = cond_off (eqb k i) a (f k) (test_ne k i ne)
+changed_other f i a k ne = grind (arith, nat_tests)
 
 -- how many arms, the group, the arms (from 1)
 pub record Machine : Type 0 where

@@ -1,11 +1,12 @@
 -- A gate's state mirrors the machine: its registers and records say what the machine's arms are.
-use Rattle.std.proofs.Common.{◌≡◌, ℕ, zero, suc, ◌+◌, ◌-◌, ◌*◌, ◌<◌, ◌≤◌, Bool, true, false, cond, not, ◌&&◌, T, eqb, ltb, leb, ◌≢◌, List, [], ◌∷◌, length, get_or, set, Some, None, Option, sym, refl, ap, ◌∙◌, subst, ⊎_elim, arith}
-use Rattle.std.proofs.lemmas.Bool.{cases_eq, cases_lt, cond_both, and_from, cond-true, lt-ltb, le-leb}
+use Rattle.std.proofs.Common.{◌≡◌, ℕ, zero, suc, ◌+◌, ◌-◌, ◌*◌, ◌<◌, ◌≤◌, Bool, true, false, not, T, eqb, ◌≢◌, List, [], ◌∷◌, length, get_or, set, Some, None, Option, sym, refl, ap, ◌∙◌, ⊎_elim, arith}
+use Rattle.std.proofs.lemmas.Bool.Decides.{nat_tests}
+use Rattle.std.proofs.lemmas.Bool.{cases_eq, cond_both}
 use Rattle.std.proofs.lemmas.List.{length-set, get_or-set_same, get_or-set_other, set_past}
-use Rattle.bank.specs.Registers.{written, can_hold}
-use Rattle.door.specs.Positions.{group, choosing_of, mygroup_of, flag_of, phase_of, access_of, value_read, regs_after, onward, next_place, next_of, side_after, side_of}
+use Rattle.bank.specs.Registers.{written}
+use Rattle.door.specs.Positions.{group, choosing_of, mygroup_of, flag_of, access_of, value_read, regs_after, next_place, next_of, side_after, side_of}
 use Rattle.door.specs.Arms.{no_arm, moved as record_moved}
-use Rattle.door.specs.Tallies.{with_row, counted, each, same_phase, past_doorway, row_started, row_cleared, tallied}
+use Rattle.door.specs.Tallies.{with_row, counted, each, same_phase, row_started, row_cleared, tallied}
 use Rattle.door.specs.States.{State, arm_at, with_table, with_arm}
 use Rattle.door.specs.Calls.{with_visit}
 use Rattle.door.specs.declared.arm.Arm.{Arm}
@@ -18,7 +19,7 @@ use Rattle.door.specs.declared.position.Place.TheVariants.{W1, W2, W3, W4, W5, W
 use Rattle.door.specs.declared.position.Position.{Position}
 use Rattle.door.specs.declared.position.Position.TheVariants.{Doorway, Leaving}
 use Rattle.door.proofs.Bools.{same}
-use Rattle.door.proofs.machine.Machine.{Stance, idle, d1, d2, d3, d4, d5, waits, inside, x1, x2, position, at, side, out, choosing, mygroup, flag, next, step_waiting, outcome, step_arm, turn_step, begin_arm, admit_arm, leave_arm, may_step, changed, changed_same, changed_other, Machine, moved_to}
+use Rattle.door.proofs.machine.Machine.{Stance, idle, d1, d2, d3, d4, d5, waits, inside, x1, x2, position, at, side, out, choosing, mygroup, flag, step_waiting, outcome, step_arm, turn_step, begin_arm, admit_arm, leave_arm, may_step, changed, changed_same, changed_other, Machine, moved_to}
 use Rattle.door.proofs.machine.Invariant.{Own}
 use Rattle.door.proofs.Tables.{length_each}
 
@@ -54,14 +55,7 @@ pub record Mirror (s : State) (g : Machine) : Type 0 where
   pub shows : (i : ℕ) → 1 ≤ i → i ≤ s.n → Shown s i (g.arms i)
 
 shows_eq : {r r' : Arm} {c c' m m' f f' : ℕ} {a a' : Stance} → r' ≡ r → c' ≡ c → m' ≡ m → f' ≡ f → a' ≡ a → Shows r c m f a → Shows r' c' m' f' a'
-shows_eq er ec em ef ea h = record {
-  stands = ap (λ x. x.position) er ∙ (h.stands ∙ sym (ap position ea));
-  sided = ap (λ x. x.side) er ∙ (h.sided ∙ sym (ap (λ x. as_bit (side x)) ea));
-  marked = ap (λ x. x.out) er ∙ (h.marked ∙ sym (ap out ea));
-  chooses = ec ∙ (h.chooses ∙ sym (ap (λ x. bit (choosing x)) ea));
-  grouped = em ∙ (h.grouped ∙ sym (ap (λ x. bit (mygroup x)) ea));
-  flagged = ef ∙ (h.flagged ∙ sym (ap (λ x. bit (flag x)) ea));
-}
+shows_eq er ec em ef ea h = record { stands = cc; sided = cc; marked = cc; chooses = cc; grouped = cc; flagged = cc }
 
 -- the registers of the arms other than i are as they were
 abbrev Others : State → ℕ → List ℕ → Type 0
@@ -93,18 +87,10 @@ mirror_with s g mir i lo hi regs len r b a group_now others own = record {
 
 -- tests on bits
 pub bit_same : (x y : Bool) → eqb (bit x) (bit y) ≡ same x y
-bit_same true true = refl
-bit_same true false = refl
-bit_same false true = refl
-bit_same false false = refl
+bit_same b c = grind arith
 
 pub bit_not : (x : Bool) → 1 - bit x ≡ bit (not x)
-bit_not true = refl
-bit_not false = refl
-
-push : {A B : Type 0} (f : A → B) (b : Bool) (x y : A) → cond b (f x) (f y) ≡ f (cond b x y)
-push f true x y = refl
-push f false x y = refl
+bit_not x = grind arith
 
 -- the value that a waiting arm reads, and where it leads
 abbrev sees : Bool → Stance → Place → Bool
@@ -115,25 +101,8 @@ sees β b W4 = flag b
 sees β b W5 = β
 sees β b W6 = mygroup b
 
-next_position : (n : ℕ) (u : Bool) (j : ℕ) → onward n j ≡ position (next n u j)
-next_position n u j = push position (ltb j n) (waits u (j + 1) W1) (inside u false)
-
--- a choice by two bits, and one by a single bit
-by_two : (x u : Bool) (p q : Position) (a b : Stance) → p ≡ position a → q ≡ position b → cond (eqb (bit x) (bit u)) p q ≡ position (cond (same x u) a b)
-by_two x u p q a b ep eq =
-    ap (λ t. cond t p q) (bit_same x u) ∙ (ap (λ z. cond (same x u) z q) ep ∙ (ap (λ z. cond (same x u) (position a) z) eq ∙ push position (same x u) a b))
-
-by_one : (x : Bool) (p q : Position) (a b : Stance) → p ≡ position a → q ≡ position b → cond (eqb (bit x) 0) p q ≡ position (cond x b a)
-by_one true p q a b ep eq = eq
-by_one false p q a b ep eq = ep
-
 next_waiting : (n : ℕ) (β : Bool) (b : Stance) (u : Bool) (j : ℕ) (p : Place) → next_place n (bit u) (bit (sees β b p)) j p ≡ position (step_waiting n β b u j p)
-next_waiting n β b u j W1 = by_two β u _ _ (waits u j W2) (inside u false) refl refl
-next_waiting n β b u j W2 = by_one (choosing b) _ _ (waits u j W3) (waits u j W2) refl refl
-next_waiting n β b u j W3 = by_two (mygroup b) u _ _ (next n u j) (waits u j W4) (next_position n u j) refl
-next_waiting n β b u j W4 = by_one (flag b) _ _ (next n u j) (waits u j W5) (next_position n u j) refl
-next_waiting n β b u j W5 = by_two β u _ _ (waits u j W6) (next n u j) refl (next_position n u j)
-next_waiting n β b u j W6 = by_two (mygroup b) u _ _ (next n u j) (waits u j W4) (next_position n u j) refl
+next_waiting n β b u j p = grind arith
 
 -- what else a waiting arm's step leaves
 abbrev Rest : Bool → Stance → Type 0
@@ -144,33 +113,23 @@ rest_waiting n β b u = outcome (Rest u) n β b u (λ j p. (refl, refl, refl, re
 
 -- a write to a register that the bank has, of a value that it holds
 length_written : (high : ℕ) (regs : List ℕ) (q v : ℕ) → length (written high regs q v) ≡ length regs
-length_written high regs q v = cond_both (can_hold high regs q v) (set regs q v) regs (λ rs. length rs ≡ length regs) (λ _. length-set regs q v) (λ _. refl)
+length_written high regs q v = grind (arith, length-set {A = ℕ})
 
 written_same : (high : ℕ) (regs : List ℕ) (q v : ℕ) → q < length regs → v ≤ high → get_or (written high regs q v) q 0 ≡ v
-written_same high regs q v l h =
-    ap (λ rs. get_or rs q 0) (cond-true (can_hold high regs q v) (set regs q v) regs (and_from (ltb q (length regs)) (leb v high) (lt-ltb q (length regs) l) (le-leb v high h)))
-    ∙ get_or-set_same regs q v 0 l
+written_same high regs q v l h = grind (arith, nat_tests, get_or-set_same)
 
 written_other : (high : ℕ) (regs : List ℕ) (q v z : ℕ) → z ≢ q → get_or (written high regs q v) z 0 ≡ get_or regs z 0
-written_other high regs q v z ne =
-    cond_both (can_hold high regs q v) (set regs q v) regs (λ rs. get_or rs z 0 ≡ get_or regs z 0) (λ _. get_or-set_other regs q z v 0 ne) (λ _. refl)
+written_other high regs q v z ne = grind (arith, get_or-set_other)
 
 -- the tally leaves what the machine sees
 abbrev pub Seen : Arm → Arm → Type 0
 Seen a b = (a.position ≡ b.position) × (a.side ≡ b.side) × (a.out ≡ b.out)
 
 row_seen : (r : List ℕ) (t : List Bool) (k : ℕ) (arms : List Arm) (j : ℕ) → Seen (get_or (set arms k (with_row r t (get_or arms k no_arm))) j no_arm) (get_or arms j no_arm)
-row_seen r t k arms j = ⊎_elim
-    (λ q. subst (λ i. Seen (get_or (set arms k (with_row r t (get_or arms k no_arm))) i no_arm) (get_or arms i no_arm)) (sym q) (⊎_elim
-    (λ l. subst (λ a. Seen a (get_or arms k no_arm)) (sym (get_or-set_same arms k (with_row r t (get_or arms k no_arm)) no_arm l)) (refl, refl, refl))
-    (λ l. subst (λ rs. Seen (get_or rs k no_arm) (get_or arms k no_arm)) (sym (set_past arms k (with_row r t (get_or arms k no_arm)) l)) (refl, refl, refl))
-    (cases_lt k (length arms))))
-    (λ ne. subst (λ a. Seen a (get_or arms j no_arm)) (sym (get_or-set_other arms k j _ no_arm ne)) (refl, refl, refl))
-    (cases_eq j k)
+row_seen r t k arms j = grind (arith, get_or-set_same, get_or-set_other, set_past)
 
 counted_seen : (b k : ℕ) (a : Arm) → Seen (counted b k a) a
-counted_seen b k a =
-    cond_both (not (eqb k b) && past_doorway (phase_of a.position)) (with_row _ a.notes a) a (λ r. Seen r a) (λ _. (refl, refl, refl)) (λ _. (refl, refl, refl))
+counted_seen b k a = grind arith
 
 each_seen : (f : ℕ → Arm → Arm) → ((k : ℕ) (a : Arm) → Seen (f k a) a) → (k : ℕ) (arms : List Arm) (j : ℕ) → Seen (get_or (each f k arms) j no_arm) (get_or arms j no_arm)
 each_seen f h k [] j = (refl, refl, refl)
@@ -216,8 +175,7 @@ stepped_at s i p o =
     with_table (regs_after s.high s.regs x) (set s.arms (i - 1) (record_moved (next_of s.n (side_of o) v p) (side_after v p o) (arm_at s i))) s
 
 bit_low : (u : Bool) → bit u ≤ 1
-bit_low true = omega arith
-bit_low false = omega arith
+bit_low u = grind arith
 
 module _ (s : State) (g : Machine) (mir : Mirror s g) (i : ℕ) (lo : 1 ≤ i) (hi : i ≤ s.n) where
   set_same : (q v : ℕ) → q ≤ 3 * i → v ≤ 1 → get_or (written s.high s.regs q v) q 0 ≡ v
@@ -261,18 +219,18 @@ module _ (s : State) (g : Machine) (mir : Mirror s g) (i : ℕ) (lo : 1 ≤ i) (
   step_mirror (idle x) o k h = absurd k
   step_mirror (d1 x) o k h = with_write (choosing_of i) 1 (λ k klo kne. omega arith) _ g.group (d2 x)
       (set_other (choosing_of i) 1 group (omega arith) ∙ mir.group_is)
-      (record { stands = refl; sided = refl; marked = h.marked; chooses = set_same (choosing_of i) 1 (omega arith) (omega arith); grouped = set_other (choosing_of i) 1 (mygroup_of i) (omega arith) ∙ h.grouped; flagged = set_other (choosing_of i) 1 (flag_of i) (omega arith) ∙ h.flagged })
+      (grind (arith, set_other, set_same))
   step_mirror (d2 x) o k h = with_none _ (d3 g.group x)
-      (record { stands = refl; sided = ap Some mir.group_is; marked = h.marked; chooses = h.chooses; grouped = h.grouped; flagged = h.flagged })
+      (let z = mir.group_is in grind arith)
   step_mirror (d3 u x) o k h = with_write (mygroup_of i) (bit u) (λ k klo kne. omega arith) _ g.group (d4 u)
       (set_other (mygroup_of i) (bit u) group (omega arith) ∙ mir.group_is)
-      (record { stands = refl; sided = refl; marked = h.marked; chooses = set_other (mygroup_of i) (bit u) (choosing_of i) (omega arith) ∙ h.chooses; grouped = set_same (mygroup_of i) (bit u) (omega arith) (bit_low u); flagged = set_other (mygroup_of i) (bit u) (flag_of i) (omega arith) ∙ h.flagged })
+      (grind (arith, set_other, set_same, bit_low))
   step_mirror (d4 u) o k h = with_write (flag_of i) 1 (λ k klo kne. omega arith) _ g.group (d5 u)
       (set_other (flag_of i) 1 group (omega arith) ∙ mir.group_is)
-      (record { stands = refl; sided = refl; marked = h.marked; chooses = set_other (flag_of i) 1 (choosing_of i) (omega arith) ∙ h.chooses; grouped = set_other (flag_of i) 1 (mygroup_of i) (omega arith) ∙ h.grouped; flagged = set_same (flag_of i) 1 (omega arith) (omega arith) })
+      (grind (arith, set_other, set_same))
   step_mirror (d5 u) o k h = with_write (choosing_of i) 0 (λ k klo kne. omega arith) _ g.group (waits u 1 W1)
       (set_other (choosing_of i) 0 group (omega arith) ∙ mir.group_is)
-      (record { stands = refl; sided = refl; marked = h.marked; chooses = set_same (choosing_of i) 0 (omega arith) (omega arith); grouped = set_other (choosing_of i) 0 (mygroup_of i) (omega arith) ∙ h.grouped; flagged = set_other (choosing_of i) 0 (flag_of i) (omega arith) ∙ h.flagged })
+      (grind (arith, set_other, set_same))
   step_mirror (waits u j W1) o k h = wait_mirror u j W1 _ mir.group_is h
   step_mirror (waits u j W2) o k h = let z = mir.size in wait_mirror u j W2 _ (mir.shows j o.0 (let y = o.1 in omega arith)).chooses h
   step_mirror (waits u j W3) o k h = let z = mir.size in wait_mirror u j W3 _ (mir.shows j o.0 (let y = o.1 in omega arith)).grouped h
@@ -282,45 +240,20 @@ module _ (s : State) (g : Machine) (mir : Mirror s g) (i : ℕ) (lo : 1 ≤ i) (
   step_mirror (inside u x) o k h = absurd k
   step_mirror (x1 u) o k h = with_write group (1 - bit u) (λ k klo kne. omega arith) _ (not u) (x2 u)
       (set_same group (1 - bit u) (omega arith) (omega arith) ∙ bit_not u)
-      (record { stands = refl; sided = refl; marked = h.marked; chooses = set_other group (1 - bit u) (choosing_of i) (omega arith) ∙ h.chooses; grouped = set_other group (1 - bit u) (mygroup_of i) (omega arith) ∙ h.grouped; flagged = set_other group (1 - bit u) (flag_of i) (omega arith) ∙ h.flagged })
+      (grind (arith, set_other, set_same))
   step_mirror (x2 u) o k h = with_write (flag_of i) 0 (λ k klo kne. omega arith) _ g.group (idle u)
       (set_other (flag_of i) 0 group (omega arith) ∙ mir.group_is)
-      (record { stands = refl; sided = refl; marked = h.marked; chooses = set_other (flag_of i) 0 (choosing_of i) (omega arith) ∙ h.chooses; grouped = set_other (flag_of i) 0 (mygroup_of i) (omega arith) ∙ h.grouped; flagged = set_same (flag_of i) 0 (omega arith) (omega arith) })
+      (grind (arith, set_other, set_same))
 
   -- the calls without an access
   pub begin_mirror : (v : ℕ) (a : Stance) → T (at P.I a) → Shown s i a → Mirror (with_arm i (with_visit (Doorway D1) v (arm_at s i).out (arm_at s i)) s) (moved_to g g.group i (begin_arm a))
-  begin_mirror v (idle x) k h = with_none _ (d1 x) (record { stands = refl; sided = h.sided; marked = h.marked; chooses = h.chooses; grouped = h.grouped; flagged = h.flagged })
-  begin_mirror v (d1 x) k h = absurd k
-  begin_mirror v (d2 x) k h = absurd k
-  begin_mirror v (d3 u x) k h = absurd k
-  begin_mirror v (d4 u) k h = absurd k
-  begin_mirror v (d5 u) k h = absurd k
-  begin_mirror v (waits u j p) k h = absurd k
-  begin_mirror v (inside u x) k h = absurd k
-  begin_mirror v (x1 u) k h = absurd k
-  begin_mirror v (x2 u) k h = absurd k
+  begin_mirror v (idle x) k h = with_none _ (d1 x) (grind arith)
+  begin_mirror v a k h = absurd k
 
   pub admit_mirror : (a : Stance) → T (at P.F a) → Shown s i a → Mirror (with_arm i (with_visit (arm_at s i).position (arm_at s i).visits true (arm_at s i)) s) (moved_to g g.group i (admit_arm a))
-  admit_mirror (inside u x) k h = with_none _ (inside u true) (record { stands = h.stands; sided = h.sided; marked = refl; chooses = h.chooses; grouped = h.grouped; flagged = h.flagged })
-  admit_mirror (idle x) k h = absurd k
-  admit_mirror (d1 x) k h = absurd k
-  admit_mirror (d2 x) k h = absurd k
-  admit_mirror (d3 u x) k h = absurd k
-  admit_mirror (d4 u) k h = absurd k
-  admit_mirror (d5 u) k h = absurd k
-  admit_mirror (waits u j p) k h = absurd k
-  admit_mirror (x1 u) k h = absurd k
-  admit_mirror (x2 u) k h = absurd k
+  admit_mirror (inside u x) k h = with_none _ (inside u true) (grind arith)
+  admit_mirror a k h = absurd k
 
   pub leave_mirror : (a : Stance) → T (out a) → Shown s i a → Mirror (with_arm i (with_visit (Leaving X1) (arm_at s i).visits false (arm_at s i)) s) (moved_to g g.group i (leave_arm a))
-  leave_mirror (inside u true) k h = with_none _ (x1 u) (record { stands = refl; sided = h.sided; marked = refl; chooses = h.chooses; grouped = h.grouped; flagged = h.flagged })
-  leave_mirror (inside u false) k h = absurd k
-  leave_mirror (idle x) k h = absurd k
-  leave_mirror (d1 x) k h = absurd k
-  leave_mirror (d2 x) k h = absurd k
-  leave_mirror (d3 u x) k h = absurd k
-  leave_mirror (d4 u) k h = absurd k
-  leave_mirror (d5 u) k h = absurd k
-  leave_mirror (waits u j p) k h = absurd k
-  leave_mirror (x1 u) k h = absurd k
-  leave_mirror (x2 u) k h = absurd k
+  leave_mirror (inside u true) k h = with_none _ (x1 u) (grind arith)
+  leave_mirror a k h = absurd k

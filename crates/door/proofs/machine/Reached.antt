@@ -1,7 +1,7 @@
 -- Every call is a move of the machine or nothing that it sees; so every history of a gate mirrors a run of the machine.
-use Rattle.std.proofs.Common.{◌≡◌, ℕ, zero, suc, ◌+◌, ◌-◌, ◌<◌, ◌≤◌, Bool, false, not, ◌&&◌, T, eqb, leb, List, [], ◌∷◌, ◌++◌, length, get_or, take, drop, replicate, Some, None, Option, sym, refl, ap, ◌∙◌, subst, arith}
-use lib.Dec.{eqb_refl}
-use Rattle.std.proofs.lemmas.Bool.{cond-false, ne_eqb, le-leb}
+use Rattle.std.proofs.Common.{◌≡◌, ℕ, ◌+◌, ◌-◌, ◌<◌, ◌≤◌, Bool, false, not, ◌&&◌, T, eqb, List, [], ◌∷◌, ◌++◌, length, get_or, take, drop, replicate, None, sym, refl, ap, ◌∙◌, subst, arith}
+use Rattle.std.proofs.lemmas.Bool.Decides.{nat_tests}
+use Rattle.std.proofs.lemmas.Bool.{cond-false, ne_eqb}
 use Rattle.std.proofs.lemmas.List.{get_or-replicate, length-replicate, get_or_append_left, take_more}
 use Rattle.door.specs.Limits.{arm_limit}
 use Rattle.door.specs.Positions.{group, choosing_of, mygroup_of, flag_of, phase_of}
@@ -9,16 +9,15 @@ use Rattle.door.specs.Arms.{fresh, no_arm}
 use Rattle.door.specs.Tallies.{same_phase}
 use Rattle.door.specs.Making.{room, arms_for, cleared, made_regs}
 use Rattle.door.specs.States.{State, made, is_arm, arm_at, phase_at}
-use Rattle.door.specs.Calls.{begin_refusal, step_refusal, admit_refusal, knows, refusal_of, arm_after, stepped, done, unless, after, run}
-use Rattle.door.specs.History.{no_refusal, moves, steps, step_of, move_of, is_in, goes_inside}
+use Rattle.door.specs.Calls.{begin_refusal, step_refusal, admit_refusal, knows, refusal_of, arm_after, stepped, done, after, run}
+use Rattle.door.specs.History.{moves, steps, step_of, move_of, is_in, goes_inside}
 use Rattle.door.specs.declared.call.Call.{Call}
 use Rattle.door.specs.declared.call.Call.TheVariants.{Begin, Step, Admit, Confirm, Leave, Look, Tally, Way}
 use Rattle.door.specs.declared.position.Phase.{Phase}
 use Rattle.door.specs.declared.position.Phase.TheVariants as P
-use Rattle.door.specs.declared.refusal.Refusal.{Refusal}
-use Rattle.door.proofs.Bools.{and_T, T_and, T_true}
+use Rattle.door.proofs.Bools.{and_T}
 use Rattle.door.proofs.Rooms.{arms_few, arms_fit, length_cleared}
-use Rattle.door.proofs.Accepted.{for_arm_none, begin_none, step_none, admit_none, leave_none, arm_in, known_arm}
+use Rattle.door.proofs.Accepted.{for_arm_none, begin_none, step_none, admit_none, leave_none, arm_in, known_arm, by_answer}
 use Rattle.door.proofs.machine.Machine.{Stance, idle, position, at, out, Move, begin, step, admit, leave, is_step, is_begin, allowed, may_step, Machine, moved}
 use Rattle.door.proofs.machine.Invariant.{Inv, inv_moved}
 use Rattle.door.proofs.rounds.Waiting.{Waiting, Entry}
@@ -31,19 +30,11 @@ pub data Came (g : Machine) (t : State) (mv st : ℕ → Bool) : Type 0 where
       → ((b : ℕ) → mv b ≡ (not (is_begin m) && eqb i b)) → ((b : ℕ) → st b ≡ (is_step m && eqb i b)) → Came g t mv st
 
 pub arm_is : (s : State) (i : ℕ) → 1 ≤ i → i ≤ s.n → T (is_arm s i)
-arm_is s i lo hi = T_and (leb 1 i) (leb i s.n) (T_le 1 i lo) (T_le i s.n hi)
-  where
-    T_le : (a b : ℕ) → a ≤ b → T (leb a b)
-    T_le a b l = T_true (leb a b) (le-leb a b l)
+arm_is s i lo hi = grind (arith, nat_tests)
 
 module _ (s : State) (g : Machine) (mir : Mirror s g) (inv : Inv g) where
   by_refusal : (c : Call) → (refusal_of s c ≡ None → Came g (done s c) (λ b. move_of b c) (λ b. step_of b c)) → Came g (after s c) (λ b. moves b s c) (λ b. steps b s c)
-  by_refusal c f = go (refusal_of s c) f
-    where
-      go : (r : Option Refusal) → (r ≡ None → Came g (done s c) (λ b. move_of b c) (λ b. step_of b c))
-          → Came g (unless r (done s c) s) (λ b. no_refusal r && move_of b c) (λ b. no_refusal r && step_of b c)
-      go None f = f refl
-      go (Some x) f = stays mir (λ b. refl) (λ b. refl)
+  by_refusal c f = by_answer (refusal_of s c) (done s c) s (λ t y. Came g t (λ b. y && move_of b c) (λ b. y && step_of b c)) f (stays mir (λ b. refl) (λ b. refl))
 
   step_came : (i : ℕ) → refusal_of s (Step i) ≡ None → Came g (stepped i s) (λ b. eqb i b) (λ b. eqb i b)
   step_came i e =
@@ -90,11 +81,11 @@ phase_shown s g mir p i lo hi = ap (λ z. same_phase (phase_of z) p) (mir.shows 
 pub entry_goes : (w : ℕ) (sd : Bool) (s : State) (g : Machine) → 1 ≤ w → w ≤ g.n → Mirror s g → Waiting sd (g.arms w) → (c : Call) (m : Move) (i : ℕ)
     → Mirror (after s c) (moved g m i) → ((b : ℕ) → steps b s c ≡ (is_step m && eqb i b)) → Entry m i w (moved g m i) → T (goes_inside w s c)
 entry_goes w sd s g lo hi mir wait c m i mir' st (q, k, ins) =
-    T_and (steps w s c) (is_in P.W s w && is_in P.F (after s c) w)
-    (subst T (sym (st w)) (T_and (is_step m) (eqb i w) k (subst (λ z. T (eqb i z)) q (eqb_refl i))))
-    (T_and (is_in P.W s w) (is_in P.F (after s c) w)
-    (subst T (sym (phase_shown s g mir P.W w lo hi)) (subst (λ y. T (at P.W y)) (sym wait.2) tt))
-    (subst T (sym (phase_shown (after s c) (moved g m i) mir' P.F w lo hi)) ins))
+    let before = phase_shown s g mir P.W w lo hi in
+    let afterwards = phase_shown (after s c) (moved g m i) mir' P.F w lo hi in
+    let step_is = st w in
+    let waiting = wait.2 in
+    grind (arith, nat_tests)
 
 -- a state that mirrors a machine of n arms with its invariant
 pub record Sound (s : State) (n : ℕ) : Type 0 where
@@ -115,19 +106,8 @@ run_sound s n h [] = h
 run_sound s n h (c ∷ cs) = run_sound (after s c) n (after_sound s n h c) cs
 
 -- no call alters how many arms there are
-unless_n : (r : Option Refusal) (x y : State) → x.n ≡ y.n → (unless r x y).n ≡ y.n
-unless_n None x y e = e
-unless_n (Some r) x y e = refl
-
 after_n : (s : State) (c : Call) → (after s c).n ≡ s.n
-after_n s (Begin i) = unless_n (refusal_of s (Begin i)) (done s (Begin i)) s refl
-after_n s (Step i) = unless_n (refusal_of s (Step i)) (done s (Step i)) s refl
-after_n s (Admit i) = unless_n (refusal_of s (Admit i)) (done s (Admit i)) s refl
-after_n s (Confirm z i) = refl
-after_n s (Leave z i) = unless_n (refusal_of s (Leave z i)) (done s (Leave z i)) s refl
-after_n s (Look i) = unless_n (refusal_of s (Look i)) s s refl
-after_n s (Tally i k) = unless_n (refusal_of s (Tally i k)) s s refl
-after_n s (Way i) = unless_n (refusal_of s (Way i)) s s refl
+after_n s c = grind arith
 
 pub run_n : (cs : List Call) (s : State) → (run s cs).n ≡ s.n
 run_n [] s = refl
@@ -150,8 +130,7 @@ start_inv n = record { home = λ k. tt; awake = λ k h. absurd h; range = λ k t
 
 -- a gate with arms has a bank that holds a bit, and 0 in all their registers
 some_high : (high len wanted : ℕ) → 1 ≤ arms_for high len wanted → 1 ≤ high
-some_high zero len wanted h = absurd (omega arith)
-some_high (suc k) len wanted h = omega arith
+some_high high len wanted h = grind (arith, nat_tests)
 
 module _ (high number wanted : ℕ) (regs : List ℕ) (some : 1 ≤ arms_for high (length regs) wanted) where
   abbrev made_n : ℕ

@@ -1,12 +1,13 @@
 -- What a door means: the bit, and each arm's phase and side; and how often an arm gets past one that waits, from three rules alone:
 -- a side is the bit at the moment it is read; an arm goes inside only while the bit differs from its side or no other arm has the other side;
 -- only the first exit step alters the bit, setting it to 1 - side.
-use Rattle.std.proofs.Common.{◌≡◌, ℕ, ◌+◌, ◌≤◌, Bool, true, false, cond, not, ◌&&◌, T, eqb, ◌≢◌, ◌⊎◌, sym, refl, ap, ◌∙◌, subst, inl, inr, ⊎_elim, arith, eqb→eq}
+use Rattle.std.proofs.Common.{◌≡◌, ℕ, ◌+◌, ◌≤◌, Bool, false, cond, not, ◌&&◌, T, eqb, ◌≢◌, ◌⊎◌, sym, refl, ap, ◌∙◌, subst, inl, ⊎_elim, arith}
 use Rattle.std.proofs.lemmas.Bool.{cases_eq}
+use Rattle.std.proofs.lemmas.Bool.Decides.{nat_tests}
 use Rattle.door.specs.Tallies.{same_phase}
 use Rattle.door.specs.declared.position.Phase.{Phase}
 use Rattle.door.specs.declared.position.Phase.TheVariants as P
-use Rattle.door.proofs.Bools.{same, same_refl, same_sym, same_trans, same_swap, sides_agree, and_T, by, ne_test}
+use Rattle.door.proofs.Bools.{same, same_refl, same_trans}
 
 -- an arm: I; D before it reads the bit; D with a side; W; F; X before and after the first exit step
 pub data Stage : Type 0 where
@@ -60,32 +61,19 @@ pub record Change (m m' : Meaning) (i : ℕ) : Type 0 where
 
 -- who is inside: if an arm with side t is in F, or in X before its first exit step, then the bit is 1 - t or no arm has side 1 - t
 abbrev pub Own : Bool → (ℕ → Stage) → Stage → Type 0
-Own bit arms resting = Unit {0}
-Own bit arms coming = Unit {0}
-Own bit arms (read t) = Unit {0}
-Own bit arms (waiting t) = Unit {0}
 Own bit arms (inside t) = Free bit arms t
 Own bit arms (leaving t) = Free bit arms t
 Own bit arms (turned t) = T (same bit (not t))
+Own bit arms a = Unit {0}
 
 -- facts last while the bit does, and sides come only from it
 keep : (bit : Bool) (arms arms' : ℕ → Stage) → ((k : ℕ) (t : Bool) → T (has t (arms' k)) → T (has t (arms k)) ⊎ T (same t bit)) → (a : Stage) → Own bit arms a → Own bit arms' a
-keep bit arms arms' seen resting h = tt
-keep bit arms arms' seen coming h = tt
-keep bit arms arms' seen (read t) h = tt
-keep bit arms arms' seen (waiting t) h = tt
-keep bit arms arms' seen (inside t) h = λ k hk. ⊎_elim (h k) (λ y. same_sym (not t) bit y) (seen k (not t) hk)
-keep bit arms arms' seen (leaving t) h = λ k hk. ⊎_elim (h k) (λ y. same_sym (not t) bit y) (seen k (not t) hk)
-keep bit arms arms' seen (turned t) h = h
+keep bit arms arms' seen a h = grind (arith, seen)
 
 turn_other : (bit t : Bool) (arms arms' : ℕ → Stage) (i : ℕ) → arms i ≡ leaving t → Free bit arms t → (k : ℕ) (a : Stage) → arms k ≡ a → Own bit arms a → Own (not t) arms' a
-turn_other bit t arms arms' i e free k resting q h = tt
-turn_other bit t arms arms' i e free k coming q h = tt
-turn_other bit t arms arms' i e free k (read s) q h = tt
-turn_other bit t arms arms' i e free k (waiting s) q h = tt
-turn_other bit t arms arms' i e free k (inside s) q h = λ k' hk. sides_agree bit t s (λ o. free k (subst (λ y. T (has (not t) y)) (sym q) o)) (λ o. h i (subst (λ y. T (has (not s) y)) (sym e) (same_swap t s o)))
-turn_other bit t arms arms' i e free k (leaving s) q h = λ k' hk. sides_agree bit t s (λ o. free k (subst (λ y. T (has (not t) y)) (sym q) o)) (λ o. h i (subst (λ y. T (has (not s) y)) (sym e) (same_swap t s o)))
-turn_other bit t arms arms' i e free k (turned s) q h = sides_agree bit t s (λ o. free k (subst (λ y. T (has (not t) y)) (sym q) o)) (λ o. h)
+turn_other bit t arms arms' i e free k (inside s) q h = let x = free k in let y = h i in λ k' hk. grind arith
+turn_other bit t arms arms' i e free k (leaving s) q h = let x = free k in let y = h i in λ k' hk. grind arith
+turn_other bit t arms arms' i e free k a q h = let x = free k in grind arith
 
 module _ (bit : Bool) (arms arms' : ℕ → Stage) (i : ℕ) (frame : (k : ℕ) → k ≢ i → arms' k ≡ arms k) (own : (k : ℕ) → Own bit arms (arms k)) where
   own_still : (a : Stage) → arms' i ≡ a → ((t : Bool) → T (has t a) → T (has t (arms i)) ⊎ T (same t bit)) → Own bit arms a → (k : ℕ) → Own bit arms' (arms' k)
@@ -95,23 +83,15 @@ module _ (bit : Bool) (arms arms' : ℕ → Stage) (i : ℕ) (frame : (k : ℕ) 
       (cases_eq k i)
     where
       all : (k : ℕ) (t : Bool) → T (has t (arms' k)) → T (has t (arms k)) ⊎ T (same t bit)
-      all k t x = ⊎_elim
-          (λ q. subst (λ y. T (has t (arms y)) ⊎ T (same t bit)) (sym q) (seen t (subst (λ y. T (has t y)) (ap arms' q ∙ e) x)))
-          (λ ne. inl (subst (λ y. T (has t y)) (frame k ne) x))
-          (cases_eq k i)
+      all k t x = let f = frame k in let s = seen t in let c = cases_eq k i in grind arith
 
   own_goes : (a a' : Stage) (b' : Bool) → arms i ≡ a → arms' i ≡ a' → Goes bit arms a a' b' → (k : ℕ) → Own b' arms' (arms' k)
-  own_goes a a' b' e e' rests k = own_still a e' (λ t h. inl (subst (λ y. T (has t y)) (sym e) h)) (subst (Own bit arms) e (own i)) k
-  own_goes a a' b' e e' begins k = own_still coming e' (λ t h. absurd h) tt k
-  own_goes a a' b' e e' reads k = own_still (read bit) e' (λ t h. inr h) tt k
-  own_goes a a' b' e e' (ends {t = u}) k = own_still (waiting u) e' (λ t h. inl (subst (λ y. T (has t y)) (sym e) h)) tt k
   own_goes a a' b' e e' (enters {t = u} f) k = own_still (inside u) e' (λ t h. inl (subst (λ y. T (has t y)) (sym e) h)) f k
-  own_goes a a' b' e e' (leaves {t = u}) k = own_still (leaving u) e' (λ t h. inl (subst (λ y. T (has t y)) (sym e) h)) (subst (Own bit arms) e (own i)) k
   own_goes a a' b' e e' (turns {t = u}) k = ⊎_elim
       (λ q. subst (Own (not u) arms') (sym (ap arms' q ∙ e')) (same_refl (not u)))
       (λ ne. subst (Own (not u) arms') (sym (frame k ne)) (turn_other bit u arms arms' i e (subst (Own bit arms) e (own i)) k (arms k) refl (own k)))
       (cases_eq k i)
-  own_goes a a' b' e e' quits k = own_still resting e' (λ t h. absurd h) tt k
+  own_goes a a' b' e e' goes k = own_still a' e' (λ t h. grind arith) (let o = subst (Own bit arms) e (own i) in grind arith) k
 
 -- how often an arm can still get past one that waits with side s: e says that the bit is s
 abbrev pub left : Bool → Bool → Stage → ℕ
@@ -129,65 +109,28 @@ left_high e s a = grind arith
 left_idle : (e s : Bool) (a : Stage) → T (at P.I a) → left e s a ≤ 1
 left_idle e s a h = grind arith
 
-left_turn : (s : Bool) (a : Stage) → left false s a ≤ left true s a
-left_turn s a = grind arith
-
 left_falls : (e e' s : Bool) (a : Stage) → (T e' → T e) → left e' s a ≤ left e s a
-left_falls true true s a f = omega arith
-left_falls true false s a f = left_turn s a
-left_falls false true s a f = absurd (f tt)
-left_falls false false s a f = omega arith
+left_falls e e' s a f = grind arith
 
 module _ (bit : Bool) (arms : ℕ → Stage) (w : ℕ) (s : Bool) (e : arms w ≡ waiting s) where
   w_side : (u : Bool) → T (same u s) → T (has u (arms w))
   w_side u q = subst (λ y. T (has u y)) (sym e) q
 
   away : (a a' : Stage) (b' : Bool) → Goes bit arms a a' b' → Own bit arms a → T (same b' s) → T (same bit s)
-  away a a' b' rests o q = q
-  away a a' b' begins o q = q
-  away a a' b' reads o q = q
-  away a a' b' ends o q = q
-  away a a' b' (enters f) o q = q
-  away a a' b' leaves o q = q
   away a a' b' (turns {t = u}) o q = same_trans bit (not u) s (o w (w_side (not u) q)) q
-  away a a' b' quits o q = q
-
-  left_reads : left (same bit s) s (read bit) ≤ left (same bit s) s coming
-  left_reads = grind arith
-
-  left_enter : (u : Bool) → (T (same (not u) s) → T (same bit (not u))) → left (same bit s) s (inside u) + 1 ≤ left (same bit s) s (waiting u)
-  left_enter u f = grind arith
-
-  left_turns : (u : Bool) → (T (same (not u) s) → T (same bit (not u))) → left (same (not u) s) s (turned u) ≤ left (same bit s) s (leaving u)
-  left_turns u f = grind arith
-
-  left_quits : (u : Bool) → T (same bit (not u)) → left (same bit s) s resting ≤ left (same bit s) s (turned u)
-  left_quits u f = grind arith
+  away a a' b' goes o q = q
 
   -- what a call of b leaves, and what an entry of b uses up
   left_goes : (a a' : Stage) (b' : Bool) → Goes bit arms a a' b' → Own bit arms a → (left (same b' s) s a' ≤ left (same bit s) s a) × (T (at P.W a && at P.F a') → left (same b' s) s a' + 1 ≤ left (same bit s) s a)
-  left_goes a a' b' rests o = (omega arith, λ t. absurd (never a t))
-    where
-      never : (a : Stage) → T (at P.W a && at P.F a) → ⊥
-      never a t = grind arith
-  left_goes a a' b' begins o = (omega arith, λ t. absurd t)
-  left_goes a a' b' reads o = (left_reads, λ t. absurd t)
-  left_goes a a' b' ends o = (omega arith, λ t. absurd t)
-  left_goes a a' b' (enters {t = u} f) o = let x = left_enter u (λ q. f w (w_side (not u) q)) in (omega arith, λ t. x)
-  left_goes a a' b' leaves o = (omega arith, λ t. absurd t)
-  left_goes a a' b' (turns {t = u}) o = (left_turns u (λ q. o w (w_side (not u) q)), λ t. absurd t)
-  left_goes a a' b' (quits {t = u}) o = (left_quits u o, λ t. absurd t)
+  left_goes a a' b' (enters {t = u} f) o = let x : T (same (not u) s) → T (same bit (not u)) = λ q. f w (w_side (not u) q) in grind arith
+  left_goes a a' b' (turns {t = u}) o = let x : T (same (not u) s) → T (same bit (not u)) = λ q. o w (w_side (not u) q) in grind arith
+  left_goes a a' b' goes o = grind arith
 
 -- the arm that waits after a call waited before it, or has ended its doorway
 wait_goes : (bit : Bool) (arms : ℕ → Stage) (a a' : Stage) (b' : Bool) (s : Bool) → Goes bit arms a a' b' → a' ≡ waiting s → T (not (at P.D a && at P.W a')) → a ≡ waiting s
 wait_goes bit arms a a' b' s rests e d = e
-wait_goes bit arms a a' b' s begins e d = absurd (subst (λ y. T (not (at P.W y))) e tt)
-wait_goes bit arms a a' b' s reads e d = absurd (subst (λ y. T (not (at P.W y))) e tt)
 wait_goes bit arms a a' b' s ends e d = absurd d
-wait_goes bit arms a a' b' s (enters f) e d = absurd (subst (λ y. T (not (at P.W y))) e tt)
-wait_goes bit arms a a' b' s leaves e d = absurd (subst (λ y. T (not (at P.W y))) e tt)
-wait_goes bit arms a a' b' s turns e d = absurd (subst (λ y. T (not (at P.W y))) e tt)
-wait_goes bit arms a a' b' s quits e d = absurd (subst (λ y. T (not (at P.W y))) e tt)
+wait_goes bit arms a a' b' s b e d = absurd (subst (λ y. T (not (at P.W y))) e tt)
 
 abbrev pub Inv : Meaning → Type 0
 Inv m = (k : ℕ) → Own m.bit m.arms (m.arms k)
@@ -202,21 +145,6 @@ ends_doorway w m m' = at P.D (m.arms w) && at P.W (m'.arms w)
 abbrev pub goes_inside : ℕ → Meaning → Meaning → Bool
 goes_inside b m m' = at P.W (m.arms b) && at P.F (m'.arms b)
 
-two_phases : (a : Stage) → (T (at P.D a && at P.W a) → ⊥) × (T (at P.W a && at P.F a) → ⊥)
-two_phases a = ((λ t. grind arith), (λ t. grind arith))
-
-doorway_awake : (a a' : Stage) → T (at P.D a && at P.W a') → T (at P.I a) → ⊥
-doorway_awake a a' t d = grind arith
-
--- a choice that both sides make
-choose_le : (t : Bool) (z x y : ℕ) → (T (not t) → x ≤ y) → cond t z x ≤ cond t z y
-choose_le true z x y h = omega arith
-choose_le false z x y h = h tt
-
-choose_less : (t : Bool) (z x y : ℕ) → (T t → ⊥) → (T (not t) → x + 1 ≤ y) → cond t z x + 1 ≤ cond t z y
-choose_less true z x y f h = absurd (f tt)
-choose_less false z x y f h = h tt
-
 -- the count since w ended its doorway, by whether it ends now and whether the other goes inside now: rem is what may still come
 count : (W W' : Bool → Type 0) (rem rem' : Bool → ℕ) (E N d o : Bool) (k : ℕ) →
     ((s : Bool) → W s → (k + rem s ≤ 2) × (T o → k + rem s ≤ 1)) →
@@ -224,11 +152,7 @@ count : (W W' : Bool → Type 0) (rem rem' : Bool → ℕ) (E N d o : Bool) (k :
     (T E → T d → (s : Bool) → rem' s ≤ 1) →
     (T (not E) → (s : Bool) → W' s → W s × (rem' s ≤ rem s) × (T N → rem' s + 1 ≤ rem s)) →
     (s : Bool) → W' s → (cond E 0 (cond N (k + 1) k) + rem' s ≤ 2) × (T (cond E d o) → cond E 0 (cond N (k + 1) k) + rem' s ≤ 1)
-count W W' rem rem' true N d o k L high hE hF s w = ((let x = high s in omega arith), λ t. let x = hE tt t s in omega arith)
-count W W' rem rem' false true d o k L high hE hF s w =
-    let x = hF tt s w in let y = L s x.0 in let z = x.2 tt in ((let y' = y.0 in omega arith), λ t. let y' = y.1 t in omega arith)
-count W W' rem rem' false false d o k L high hE hF s w =
-    let x = hF tt s w in let y = L s x.0 in let z = x.1 in ((let y' = y.0 in omega arith), λ t. let y' = y.1 t in omega arith)
+count W W' rem rem' E N d o k L high hE hF s w = grind (arith, L s, high s, hE, hF)
 
 -- how often b can still get past w that waits with side s; w itself counts as used up
 abbrev pub remaining : ℕ → ℕ → Meaning → Bool → ℕ
@@ -247,10 +171,7 @@ module _ (w b : ℕ) (m m' : Meaning) (i : ℕ) (c : Change m m' i) (own : Inv m
 
   -- who ends its doorway is the one that moves, so a resting arm rests on
   idle_stays : T (ends_doorway w m m') → T (at P.I (m.arms b)) → T (not (eqb b w)) → T (at P.I (m'.arms b))
-  idle_stays t d ne = ⊎_elim
-      (λ q. subst (λ y. T (at P.I y)) (sym (still b (λ z. ne_test b w ne (sym z ∙ q)))) d)
-      (λ d'. absurd ((two_phases (m.arms w)).0 (subst (λ y. T (at P.D (m.arms w) && at P.W y)) (still w d') t)))
-      (cases_eq i w)
+  idle_stays t d ne = let x = still b in let y = still w in grind (arith, nat_tests)
 
   was_waiting : (s : Bool) → T (not (ends_doorway w m m')) → m'.arms w ≡ waiting s → m.arms w ≡ waiting s
   was_waiting s d wait = ⊎_elim
@@ -263,11 +184,10 @@ module _ (w b : ℕ) (m m' : Meaning) (i : ℕ) (c : Change m m' i) (own : Inv m
       × (T (goes_inside b m m') → left (same m'.bit s) s (m'.arms b) + 1 ≤ left (same m.bit s) s (m.arms b))
   left_change s old ne = ⊎_elim
       (λ q. left_goes m.bit m.arms w s old (m.arms b) (m'.arms b) m'.bit (goes_at b q) (own b))
-      (λ d. (
-        subst (λ y. left (same m'.bit s) s y ≤ left (same m.bit s) s (m.arms b)) (sym (still b d))
-            (left_falls (same m.bit s) (same m'.bit s) s (m.arms b) (away m.bit m.arms w s old (m.arms i) (m'.arms i) m'.bit c.goes (own i))),
-        (λ t. absurd ((two_phases (m.arms b)).1 (subst (λ y. T (at P.W (m.arms b) && at P.F y)) (still b d) t))),
-      ))
+      (λ d.
+      let x = left_falls (same m.bit s) (same m'.bit s) s (m.arms b) (away m.bit m.arms w s old (m.arms i) (m'.arms i) m'.bit c.goes (own i)) in
+      let y = still b d in
+      (rw y x, λ t. grind arith))
       (cases_eq i b)
 
   -- at most two entries past a waiting arm, and at most one if the arm was idle when that one ended its doorway
@@ -275,15 +195,9 @@ module _ (w b : ℕ) (m m' : Meaning) (i : ℕ) (c : Change m m' i) (own : Inv m
       → Counted w b m' (cond (ends_doorway w m m') 0 (cond (goes_inside b m m') (k + 1) k)) (cond (ends_doorway w m m') (at P.I (m.arms b)) o)
   count_change k o L = count (λ s. m.arms w ≡ waiting s) (λ s. m'.arms w ≡ waiting s) (remaining w b m) (remaining w b m')
       (ends_doorway w m m') (goes_inside b m m') (at P.I (m.arms b)) o k L
-      (λ s. by (λ x. x ≤ 2) (eqb b w) 2 (left (same m'.bit s) s (m'.arms b)) (λ q. omega arith) (λ q. left_high (same m'.bit s) s (m'.arms b)))
-      (λ t d s. by (λ x. x ≤ 1) (eqb b w) 2 (left (same m'.bit s) s (m'.arms b))
-      (λ q. absurd (doorway_awake (m.arms w) (m'.arms w) t (subst (λ y. T (at P.I (m.arms y))) (eqb→eq b w q) d)))
-      (λ q. left_idle (same m'.bit s) s (m'.arms b) (idle_stays t d q)))
+      (λ s. let x = left_high (same m'.bit s) s (m'.arms b) in grind arith)
+      (λ t d s. let x = left_idle (same m'.bit s) s (m'.arms b) in let y = idle_stays t d in grind (arith, nat_tests))
       (λ d s wait.
-      let old = was_waiting s d wait in (
-        old,
-        choose_le (eqb b w) 2 _ _ (λ ne. (left_change s old ne).0),
-        (λ t. choose_less (eqb b w) 2 _ _
-            (λ q. (and_T (at P.W (m.arms w)) false (subst (λ y. T (at P.W (m.arms w) && at P.F y)) wait (subst (λ y. T (goes_inside y m m')) (eqb→eq b w q) t))).1)
-            (λ ne. (left_change s old ne).1 t)),
-      ))
+      let old = was_waiting s d wait in
+      let x = left_change s old in
+      (old, grind arith, λ t. grind (arith, nat_tests)))

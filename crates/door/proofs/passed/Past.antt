@@ -1,6 +1,6 @@
 -- How often an arm went inside past one that waits, over every history.
-use Rattle.std.proofs.Common.{◌≡◌, ℕ, ◌+◌, ◌≤◌, Bool, true, false, cond, ◌&&◌, T, eqb, List, [], ◌∷◌, sym, refl, ap, ◌∙◌, subst, ⊎_elim, arith}
-use lib.Dec.{eqb_refl}
+use Rattle.std.proofs.Common.{◌≡◌, ℕ, ◌+◌, ◌≤◌, Bool, false, cond, ◌&&◌, T, eqb, List, [], ◌∷◌, sym, ap, ◌∙◌, subst, arith}
+use Rattle.std.proofs.lemmas.Bool.Decides.{nat_tests}
 use Rattle.std.proofs.lemmas.Bool.{cases_eq}
 use Rattle.door.specs.Tallies.{same_phase}
 use Rattle.door.specs.States.{State}
@@ -9,37 +9,28 @@ use Rattle.door.specs.History.{is_in, steps, moves, ends_doorway, goes_inside, c
 use Rattle.door.specs.declared.call.Call.{Call}
 use Rattle.door.specs.declared.position.Phase.{Phase}
 use Rattle.door.specs.declared.position.Phase.TheVariants as P
-use Rattle.door.proofs.Bools.{same, and_T, T_and, cond_on}
-use Rattle.door.proofs.machine.Machine.{Stance, at, Move, step, is_step, allowed, changed_other, Machine, moved}
+use Rattle.door.proofs.machine.Machine.{Stance, at, Move, step, is_step, allowed, Machine, moved}
 use Rattle.door.proofs.machine.Invariant.{inv_moved}
-use Rattle.door.proofs.rounds.Waiting.{only_steps, phase_waits, doorway_steps}
+use Rattle.door.proofs.rounds.Waiting.{phase_waits, doorway_steps}
 use Rattle.door.proofs.machine.Mirror.{Mirror}
 use Rattle.door.proofs.machine.Reached.{Came, stays, goes, came, Sound, phase_shown}
-use Rattle.door.proofs.passed.Meaning.{at as StageAt, Inv as RulesHold, inv_change, ends_doorway as ends, goes_inside as enters, left, Counted, count_change}
+use Rattle.door.proofs.passed.Meaning.{at as StageAt, Inv as RulesHold, inv_change, ends_doorway as ends, goes_inside as enters, Counted, count_change}
 use Rattle.door.proofs.passed.Rules.{stage, stage_phase, meaning, move_change}
 
 absorb : (x y : Bool) → (T y → T x) → (x && y) ≡ y
-absorb true y h = refl
-absorb false true h = absurd (h tt)
-absorb false false h = refl
+absorb x y h = grind arith
 
 -- an arm's phase in the machine's meaning
 phase_meant : (p : Phase) (a : Stance) → StageAt p (stage a) ≡ at p a
 phase_meant p a = ap (λ z. same_phase z p) (stage_phase a)
 
 waiting_steps : (m : Move) (a : Stance) → T (at P.W a) → T (allowed m a) → m ≡ step
-waiting_steps m a h k = let v = phase_waits a h in only_steps m v.0 v.1.0 v.1.1 (subst (λ y. T (allowed m y)) v.1.2 k)
+waiting_steps m a h k = grind arith
 
 -- a change from a phase in which an arm may only step is its own step
 changes : (p q : Phase) → ((a : Stance) → T (at p a && at q a) → ⊥) → ((m : Move) (a : Stance) → T (at p a) → T (allowed m a) → m ≡ step)
     → (g : Machine) (m : Move) (i : ℕ) → T (allowed m (g.arms i)) → (v : ℕ) → T (at p (g.arms v) && at q ((moved g m i).arms v)) → T (is_step m && eqb i v)
-changes p q apart only g m i k v h = ⊎_elim
-    (λ e.
-    let k' : T (allowed m (g.arms v)) = subst (λ y. T (allowed m (g.arms y))) e k in
-    let r = only m (g.arms v) (and_T (at p (g.arms v)) (at q ((moved g m i).arms v)) h).0 k' in
-    T_and (is_step m) (eqb i v) (subst (λ y. T (is_step y)) (sym r) tt) (subst (λ y. T (eqb i y)) e (eqb_refl i)))
-    (λ ne. absurd (apart (g.arms v) (subst (λ y. T (at p (g.arms v) && at q y)) (changed_other g.arms i _ v (λ z. ne (sym z))) h)))
-    (cases_eq i v)
+changes p q apart only g m i k v h = let f = apart (g.arms v) in let r = only m (g.arms v) in let c = cases_eq i v in grind (arith, nat_tests)
 
 D_or_W : (a : Stance) → T (at P.D a && at P.W a) → ⊥
 D_or_W a h = grind arith
@@ -62,12 +53,13 @@ module _ (w b n : ℕ) (wlo : 1 ≤ w) (whi : w ≤ n) (blo : 1 ≤ b) (bhi : b 
     pair_shown : (g' : Machine) → g'.n ≡ n → Mirror (after s c) g' → (p q : Phase) (v : ℕ) → 1 ≤ v → v ≤ n
         → (is_in p s v && is_in q (after s c) v) ≡ (at p (g.arms v) && at q (g'.arms v))
     pair_shown g' e mir' p q v lo hi =
-        ap (λ z. z && is_in q (after s c) v) (phase_shown s g past.sound.mirror p v lo (let z = past.sound.arms_are in omega arith))
-        ∙ ap (λ z. at p (g.arms v) && z) (phase_shown (after s c) g' mir' q v lo (omega arith))
+        let before = phase_shown s g past.sound.mirror p v lo (let z = past.sound.arms_are in omega arith) in
+        let afterwards = phase_shown (after s c) g' mir' q v lo (omega arith) in
+        cc
 
     pair_meant : (g' : Machine) (p q : Phase) (v : ℕ)
         → (at p (g.arms v) && at q (g'.arms v)) ≡ (StageAt p (stage (g.arms v)) && StageAt q (stage (g'.arms v)))
-    pair_meant g' p q v = sym (ap (λ z. z && StageAt q (stage (g'.arms v))) (phase_meant p (g.arms v)) ∙ ap (λ z. at p (g.arms v) && z) (phase_meant q (g'.arms v)))
+    pair_meant g' p q v = let x = phase_meant p (g.arms v) in let y = phase_meant q (g'.arms v) in cc
 
     Next : Type 0
     Next = Past (after s c) (cond (ends_doorway w s c) 0 (cond (goes_inside b s c) (k + 1) k)) (cond (ends_doorway w s c) (is_in P.I s b) o)
@@ -80,8 +72,7 @@ module _ (w b n : ℕ) (wlo : 1 ≤ w) (whi : w ≤ n) (blo : 1 ≤ b) (bhi : b 
         record {
           sound = record { machine = g; mirror = mir'; keeps = past.sound.keeps; arms_are = past.sound.arms_are };
           rules = past.rules;
-          counted = subst (λ x. Counted w b (meaning g) (cond x 0 (cond (goes_inside b s c) (k + 1) k)) (cond x (is_in P.I s b) o)) (sym E)
-              (subst (λ x. Counted w b (meaning g) (cond x (k + 1) k) o) (sym N) past.counted);
+          counted = rw (E, N) past.counted;
         }
     went (goes m i lo hi al mir' _ st) =
         let g' : Machine = moved g m i in
@@ -100,9 +91,7 @@ module _ (w b n : ℕ) (wlo : 1 ≤ w) (whi : w ≤ n) (blo : 1 ≤ b) (bhi : b 
         record {
           sound = record { machine = g'; mirror = mir'; keeps = inv_moved g past.sound.keeps m i lo hi; arms_are = e };
           rules = inv_change (meaning g) (meaning g') i change past.rules;
-          counted = subst (λ x. Counted w b (meaning g') (cond x 0 (cond (goes_inside b s c) (k + 1) k)) (cond x (is_in P.I s b) o)) (sym E)
-              (subst (λ x. Counted w b (meaning g') (cond (ends w (meaning g) (meaning g')) 0 (cond x (k + 1) k)) (cond (ends w (meaning g) (meaning g')) (is_in P.I s b) o)) (sym N)
-              (subst (λ x. Counted w b (meaning g') (cond (ends w (meaning g) (meaning g')) 0 (cond (enters b (meaning g) (meaning g')) (k + 1) k)) (cond (ends w (meaning g) (meaning g')) x o)) (sym I) new));
+          counted = rw (E, N, I) new;
         }
 
   pub past_call : (s : State) (k : ℕ) (o : Bool) → Past s k o → (c : Call)
@@ -129,6 +118,5 @@ none_itself w n lo hi s k o past wait =
     let g : Machine = past.sound.machine in
     let e = past.sound.arms_are in
     let v = phase_waits (g.arms w) (subst T (phase_shown s g past.sound.mirror P.W w lo (omega arith)) wait) in
-    let all = cond_on (eqb w w) 2 (left (same g.group v.0) v.0 (stage (g.arms w))) (eqb_refl w) in
     let L = (past.counted v.0 (ap stage v.1.2)).0 in
-    omega arith
+    grind (arith, nat_tests)

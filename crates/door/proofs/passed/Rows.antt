@@ -1,29 +1,30 @@
 -- A waiting arm's row and notes are what its history counts.
-use Rattle.std.proofs.Common.{◌≡◌, ℕ, ◌+◌, ◌-◌, ◌<◌, ◌≤◌, min, Bool, true, false, cond, not, ◌&&◌, T, eqb, ◌≢◌, ◌⊎◌, List, [], ◌∷◌, map, length, get_or, set, replicate, Some, None, Option, sym, refl, ap, ◌∙◌, subst, inl, inr, ⊎_elim, arith, eqb→eq}
+use Rattle.std.proofs.Common.{◌≡◌, ℕ, ◌+◌, ◌-◌, ◌<◌, ◌≤◌, min, Bool, true, false, cond, not, ◌&&◌, T, eqb, ◌≢◌, ◌⊎◌, List, [], ◌∷◌, map, length, get_or, set, replicate, None, sym, refl, ap, ◌∙◌, subst, ⊎_elim, arith}
+use Rattle.std.proofs.lemmas.Grind.{get_or-set_at}
+use Rattle.std.proofs.lemmas.Bool.Decides.{nat_tests}
 use lib.Dec.{eqb_refl}
 use Rattle.std.proofs.lemmas.Bool.{cases_eq}
 use Rattle.std.proofs.lemmas.List.{length-replicate, get_or-replicate, length-set, get_or-set_same, get_or-set_other, get_or-map}
 use Rattle.door.specs.Limits.{arm_limit, tally_limit}
 use Rattle.door.specs.Positions.{phase_of, next_of, side_of, value_read}
 use Rattle.door.specs.Arms.{no_arm}
-use Rattle.door.specs.Tallies.{with_row, counted, each, is_idle, same_phase, past_doorway, row_started, row_cleared, tallied}
+use Rattle.door.specs.Tallies.{with_row, counted, is_idle, same_phase, past_doorway, tallied}
 use Rattle.door.specs.States.{State, arm_at, phase_at, with_arm}
-use Rattle.door.specs.Calls.{refusal_of, step_refusal, with_visit, access_at, arm_after, stepped, done, unless, after, run}
+use Rattle.door.specs.Calls.{refusal_of, step_refusal, with_visit, access_at, arm_after, stepped, done, after, run}
 use Rattle.door.specs.History.{no_refusal, is_in, step_of, ends_doorway, goes_inside, count_on, latest_idle}
 use Rattle.door.specs.declared.arm.Arm.{Arm}
 use Rattle.door.specs.declared.call.Call.{Call}
 use Rattle.door.specs.declared.call.Call.TheVariants.{Begin, Step, Admit, Confirm, Leave, Look, Tally, Way}
-use Rattle.door.specs.declared.position.Doorway.TheVariants.{D1, D2, D3, D4, D5}
-use Rattle.door.specs.declared.position.Exit.TheVariants.{X1, X2}
+use Rattle.door.specs.declared.position.Doorway.TheVariants.{D1}
+use Rattle.door.specs.declared.position.Exit.TheVariants.{X1}
 use Rattle.door.specs.declared.position.Phase.{Phase}
 use Rattle.door.specs.declared.position.Phase.TheVariants as P
 use Rattle.door.specs.declared.position.Position.{Position}
-use Rattle.door.specs.declared.position.Position.TheVariants.{Idle, Doorway, Waiting, Inside, Leaving}
-use Rattle.door.specs.declared.refusal.Refusal.{Refusal}
-use Rattle.door.proofs.Bools.{clash, none_of, and_T, T_and, by, cond_off, is_true, is_false, test_ne}
+use Rattle.door.specs.declared.position.Position.TheVariants.{Doorway, Leaving}
+use Rattle.door.proofs.Bools.{by, is_true}
 use Rattle.door.proofs.Tables.{getD_each}
 use Rattle.door.proofs.machine.Mirror.{tallied_table}
-use Rattle.door.proofs.Accepted.{known_arm}
+use Rattle.door.proofs.Accepted.{known_arm, by_answer}
 use Rattle.door.proofs.passed.Past.{Past, past_call, past_bound}
 
 -- what the tally makes of the record at its own place, and of one at another place
@@ -32,62 +33,19 @@ own_row k p q arms =
     cond (same_phase p P.D && same_phase q P.W) (with_row (replicate arm_limit 0) (map is_idle arms) (get_or arms k no_arm))
     (cond (same_phase p P.X && same_phase q P.I) (with_row (replicate arm_limit 0) (replicate arm_limit false) (get_or arms k no_arm)) (get_or arms k no_arm))
 
-push_at : (t : Bool) (j : ℕ) (xs ys : List Arm) → get_or (cond t xs ys) j no_arm ≡ cond t (get_or xs j no_arm) (get_or ys j no_arm)
-push_at true j xs ys = refl
-push_at false j xs ys = refl
-
 counted_own : (k : ℕ) (a : Arm) → counted k k a ≡ a
-counted_own k a = cond_off (not (eqb k k) && past_doorway (phase_of a.position)) _ a (none_of _ (λ t. clash (eqb k k) (eqb_refl k) (and_T (not (eqb k k)) _ t).0))
+counted_own k a = grind (arith, nat_tests)
 
 tallied_own : (k : ℕ) (p q : Phase) (arms : List Arm) → k < length arms → get_or (tallied k p q arms) k no_arm ≡ own_row k p q arms
-tallied_own k P.I q arms l = refl
-tallied_own k P.D q arms l = push_at (same_phase q P.W) k (row_started k arms) arms ∙ ap (λ x. cond (same_phase q P.W) x (get_or arms k no_arm)) (get_or-set_same arms k _ no_arm l)
-tallied_own k P.W q arms l = push_at (same_phase q P.F) k (each (counted k) 0 arms) arms
-    ∙ by (λ x. x ≡ get_or arms k no_arm) (same_phase q P.F) (get_or (each (counted k) 0 arms) k no_arm) (get_or arms k no_arm)
-    (λ _. getD_each (counted k) 0 arms k l ∙ (ap (λ i. counted k i (get_or arms k no_arm)) (omega arith) ∙ counted_own k (get_or arms k no_arm))) (λ _. refl)
-tallied_own k P.F q arms l = refl
-tallied_own k P.X q arms l = push_at (same_phase q P.I) k (row_cleared k arms) arms ∙ ap (λ x. cond (same_phase q P.I) x (get_or arms k no_arm)) (get_or-set_same arms k _ no_arm l)
-
-either : (t : Bool) (a : Arm) → cond t a a ≡ a
-either true a = refl
-either false a = refl
+tallied_own k p q arms l = grind (arith, get_or-set_same, getD_each, counted_own)
 
 tallied_other : (k : ℕ) (p q : Phase) (arms : List Arm) (j : ℕ) → j < length arms → j ≢ k
     → get_or (tallied k p q arms) j no_arm ≡ cond (same_phase p P.W && same_phase q P.F) (counted k j (get_or arms j no_arm)) (get_or arms j no_arm)
-tallied_other k P.I q arms j l ne = refl
-tallied_other k P.D q arms j l ne = push_at (same_phase q P.W) j (row_started k arms) arms ∙ (ap (λ x. cond (same_phase q P.W) x (get_or arms j no_arm)) (get_or-set_other arms k j _ no_arm ne) ∙ either (same_phase q P.W) (get_or arms j no_arm))
-tallied_other k P.W q arms j l ne = push_at (same_phase q P.F) j (each (counted k) 0 arms) arms
-    ∙ ap (λ x. cond (same_phase q P.F) x (get_or arms j no_arm)) (getD_each (counted k) 0 arms j l ∙ ap (λ i. counted k i (get_or arms j no_arm)) (omega arith))
-tallied_other k P.F q arms j l ne = refl
-tallied_other k P.X q arms j l ne = push_at (same_phase q P.I) j (row_cleared k arms) arms ∙ (ap (λ x. cond (same_phase q P.I) x (get_or arms j no_arm)) (get_or-set_other arms k j _ no_arm ne) ∙ either (same_phase q P.I) (get_or arms j no_arm))
+tallied_other k p q arms j l ne = grind (arith, get_or-set_other, getD_each)
 
 -- an arm that waits after a step waited before it, or was in its doorway
 before_waiting : (n sd v : ℕ) (p : Position) → T (same_phase (phase_of (next_of n sd v p)) P.W) → T (same_phase (phase_of p) P.W) ⊎ T (same_phase (phase_of p) P.D)
-before_waiting n sd v Idle h = absurd h
-before_waiting n sd v (Doorway D1) h = absurd h
-before_waiting n sd v (Doorway D2) h = absurd h
-before_waiting n sd v (Doorway D3) h = absurd h
-before_waiting n sd v (Doorway D4) h = absurd h
-before_waiting n sd v (Doorway D5) h = inr tt
-before_waiting n sd v (Waiting j p) h = inl tt
-before_waiting n sd v Inside h = absurd h
-before_waiting n sd v (Leaving X1) h = absurd h
-before_waiting n sd v (Leaving X2) h = absurd h
-
-waits_counts : (p : Phase) → T (same_phase p P.W) → T (past_doorway p)
-waits_counts p h = grind arith
-
-W_not_F : (p : Phase) → T (same_phase p P.W) → T (same_phase p P.F) → ⊥
-W_not_F p h k = grind arith
-
-W_not_I : (p : Phase) → T (same_phase p P.W) → same_phase p P.I ≡ false
-W_not_I p h = is_false (same_phase p P.I) (none_of (same_phase p P.I) (λ k. let z : ⊥ = grind arith in z))
-
-D_not_I : (p : Phase) → T (same_phase p P.D) → same_phase p P.I ≡ false
-D_not_I p h = is_false (same_phase p P.I) (none_of (same_phase p P.I) (λ k. let z : ⊥ = grind arith in z))
-
-capped : (x : ℕ) → x ≤ 2 → min (x + 1) tally_limit ≡ x + 1
-capped x h = omega arith
+before_waiting n sd v p h = grind arith
 
 module _ (w b n : ℕ) (wlo : 1 ≤ w) (whi : w ≤ n) (blo : 1 ≤ b) (bhi : b ≤ n) (few : n ≤ arm_limit) where
   -- a record whose row and notes tell k and o of arm b while it waits
@@ -140,10 +98,7 @@ module _ (w b n : ℕ) (wlo : 1 ≤ w) (whi : w ≤ n) (blo : 1 ≤ b) (bhi : b 
       after_own = phase_of (arm_after s w).position
 
       idle_noted : T (is_in P.D s w) → T (same_phase after_own P.W) → is_idle (get_or (base w wlo whi) (b - 1) no_arm) ≡ is_in P.I s b
-      idle_noted d t = ⊎_elim
-          (λ q. ap is_idle (ap (λ v. get_or (base w wlo whi) (v - 1) no_arm) q ∙ base_own w wlo whi) ∙ (W_not_I after_own t ∙ sym (ap (λ v. is_in P.I s v) q ∙ D_not_I (phase_at s w) d)))
-          (λ ne. ap is_idle (base_other w wlo whi b blo ne))
-          (cases_eq b w)
+      idle_noted d t = let x = base_own w wlo whi in let y = base_other w wlo whi b blo in let c = cases_eq b w in grind arith
 
       own_kept : (E X N : Bool) → (T E → T (is_in P.D s w) × T (same_phase after_own P.W)) → (T (not E) → T (is_in P.D s w) → T (same_phase after_own P.W) → ⊥)
           → (T X → T (same_phase after_own P.I)) → (T N → T (same_phase after_own P.F))
@@ -154,18 +109,10 @@ module _ (w b n : ℕ) (wlo : 1 ≤ w) (whi : w ≤ n) (blo : 1 ≤ b) (bhi : b 
         count = λ t. get_or-replicate arm_limit (b - 1) 0 0 (omega arith);
         note = λ t. get_or-map is_idle (base w wlo whi) (b - 1) no_arm false (let x = base_length w wlo whi in omega arith) ∙ idle_noted (is_E tt).0 (is_E tt).1;
       }
-      own_kept false true N is_E not_E is_X is_N = record {
-        full = length-replicate {A = ℕ} arm_limit 0;
-        count = λ t. absurd (subst T (W_not_I after_own t) (is_X tt));
-        note = λ t. absurd (subst T (W_not_I after_own t) (is_X tt));
-      }
-      own_kept false false true is_E not_E is_X is_N = record {
-        full = h.full;
-        count = λ t. absurd (W_not_F after_own t (is_N tt));
-        note = λ t. absurd (W_not_F after_own t (is_N tt));
-      }
+      own_kept false true N is_E not_E is_X is_N = record { full = length-replicate {A = ℕ} arm_limit 0; count = λ t. grind arith; note = λ t. grind arith }
+      own_kept false false true is_E not_E is_X is_N = record { full = h.full; count = λ t. grind arith; note = λ t. grind arith }
       own_kept false false false is_E not_E is_X is_N = kept (arm_at s w) (arm_after s w) k o refl refl
-          (λ t. ⊎_elim (λ x. x) (λ x. absurd (not_E tt x t)) (before_waiting s.n (side_of (arm_at s w).side) (value_read s.regs (access_at s w)) (arm_at s w).position t)) h
+          (λ t. let x = before_waiting s.n (side_of (arm_at s w).side) (value_read s.regs (access_at s w)) (arm_at s w).position t in let y = not_E tt in grind arith) h
 
       own_step : Row (arm_at (stepped w s) w)
           (cond (eqb w w && (is_in P.D s w && is_in P.W (stepped w s) w)) 0 (cond (eqb w b && (is_in P.W s b && is_in P.F (stepped w s) b)) (k + 1) k))
@@ -175,36 +122,18 @@ module _ (w b n : ℕ) (wlo : 1 ≤ w) (whi : w ≤ n) (blo : 1 ≤ b) (bhi : b 
           let E : (eqb w w && (is_in P.D s w && is_in P.W (stepped w s) w)) ≡ (is_in P.D s w && same_phase after_own P.W) =
           ap (λ x. x && (is_in P.D s w && is_in P.W (stepped w s) w)) (is_true (eqb w w) (eqb_refl w)) ∙ ap (λ z. is_in P.D s w && same_phase z P.W) (phase_own w wlo whi) in
           let e : arm_at (stepped w s) w ≡ own_row (w - 1) (phase_at s w) after_own (base w wlo whi) = tallied_own (w - 1) (phase_at s w) after_own (base w wlo whi) (let x = base_length w wlo whi in omega arith) in
-          subst (λ x. Row (arm_at (stepped w s) w) (cond x 0 (cond N (k + 1) k)) (cond x (is_in P.I s b) o)) (sym E)
-          (subst (λ a. Row a (cond (is_in P.D s w && same_phase after_own P.W) 0 (cond N (k + 1) k)) (cond (is_in P.D s w && same_phase after_own P.W) (is_in P.I s b) o)) (sym e)
-          (subst (λ a. Row
-          (cond (is_in P.D s w && same_phase after_own P.W) (with_row (replicate arm_limit 0) (map is_idle (base w wlo whi)) a)
-          (cond (is_in P.X s w && same_phase after_own P.I) (with_row (replicate arm_limit 0) (replicate arm_limit false) a) a))
-          (cond (is_in P.D s w && same_phase after_own P.W) 0 (cond N (k + 1) k)) (cond (is_in P.D s w && same_phase after_own P.W) (is_in P.I s b) o))
-          (sym (base_own w wlo whi))
-          (own_kept (is_in P.D s w && same_phase after_own P.W) (is_in P.X s w && same_phase after_own P.I) N
-          (and_T (is_in P.D s w) (same_phase after_own P.W))
-          (λ d x y. clash (is_in P.D s w && same_phase after_own P.W) (T_and (is_in P.D s w) (same_phase after_own P.W) x y) d)
-          (λ t. (and_T (is_in P.X s w) (same_phase after_own P.I) t).1)
-          (λ t.
-          let x = and_T (eqb w b) (is_in P.W s b && is_in P.F (stepped w s) b) t in
-          subst (λ z. T (same_phase z P.F)) (phase_own w wlo whi) (subst (λ v. T (is_in P.F (stepped w s) v)) (sym (eqb→eq w b x.0)) (and_T (is_in P.W s b) (is_in P.F (stepped w s) b) x.1).1)))))
+          rw (E, e, base_own w wlo whi) (own_kept (is_in P.D s w && same_phase after_own P.W) (is_in P.X s w && same_phase after_own P.I) N
+          (λ t. grind arith) (λ d x y. grind arith) (λ t. grind arith) (λ t. let x = phase_own w wlo whi in grind (arith, nat_tests)))
 
     -- the step of another arm
     module _ (i : ℕ) (lo : 1 ≤ i) (hi : i ≤ n) (ne : i ≢ w) (k : ℕ) (o : Bool) (low : T (is_in P.W s w) → k ≤ 2) (h : Row (arm_at s w) k o) where
       other_count : (N : Bool) → (T N → i ≡ b) → (T (not N) → i ≢ b) → T (is_in P.W s w)
           → get_or (set (arm_at s w).row (i - 1) (min (get_or (arm_at s w).row (i - 1) 0 + 1) tally_limit)) (b - 1) 0 ≡ cond N (k + 1) k
-      other_count true f g t =
-          let len = h.full in
-          subst (λ z. get_or (set (arm_at s w).row (z - 1) (min (get_or (arm_at s w).row (z - 1) 0 + 1) tally_limit)) (b - 1) 0 ≡ k + 1) (sym (f tt))
-          (get_or-set_same (arm_at s w).row (b - 1) (min (get_or (arm_at s w).row (b - 1) 0 + 1) tally_limit) 0 (omega arith)
-          ∙ (ap (λ z. min (z + 1) tally_limit) (h.count t) ∙ capped k (low t)))
-      other_count false f g t = let d : i ≢ b = g tt in get_or-set_other (arm_at s w).row (i - 1) (b - 1) _ 0 (omega arith) ∙ h.count t
+      other_count N f g t = let len = h.full in let was = h.count t in let bound = low t in grind (arith, nat_tests, get_or-set_at, get_or-set_other)
 
       other_kept : (Z N : Bool) → (T N → (i ≡ b) × T Z) → (T (not N) → i ≡ b → T Z → ⊥)
           → Row (cond Z (counted (i - 1) (w - 1) (arm_at s w)) (arm_at s w)) (cond N (k + 1) k) o
-      other_kept false true is_N not_N = absurd (is_N tt).1
-      other_kept false false is_N not_N = h
+      other_kept false N is_N not_N = let x = is_N in grind arith
       other_kept true N is_N not_N =
           let here : Bool = not (eqb (w - 1) (i - 1)) && past_doorway (phase_at s w) in
           by (λ a. Row a (cond N (k + 1) k) o) here (with_row (set (arm_at s w).row (i - 1) (min (get_or (arm_at s w).row (i - 1) 0 + 1) tally_limit)) (arm_at s w).notes (arm_at s w)) (arm_at s w)
@@ -213,11 +142,7 @@ module _ (w b n : ℕ) (wlo : 1 ≤ w) (whi : w ≤ n) (blo : 1 ≤ b) (bhi : b 
             count = other_count N (λ t. (is_N t).0) (λ d q. not_N d q tt);
             note = h.note;
           })
-          (λ d. record {
-            full = h.full;
-            count = λ t. absurd (clash here (T_and (not (eqb (w - 1) (i - 1))) (past_doorway (phase_at s w)) (test_ne (w - 1) (i - 1) (omega arith)) (waits_counts (phase_at s w) t)) d);
-            note = h.note;
-          })
+          (λ d. record { full = h.full; count = λ t. grind (arith, nat_tests); note = h.note })
 
       other_step : Row (arm_at (stepped i s) w)
           (cond (eqb i w && (is_in P.D s w && is_in P.W (stepped i s) w)) 0 (cond (eqb i b && (is_in P.W s b && is_in P.F (stepped i s) b)) (k + 1) k))
@@ -226,22 +151,12 @@ module _ (w b n : ℕ) (wlo : 1 ≤ w) (whi : w ≤ n) (blo : 1 ≤ b) (bhi : b 
           let q : Phase = phase_of (arm_after s i).position in
           let Z : Bool = is_in P.W s i && same_phase q P.F in
           let N : Bool = eqb i b && (is_in P.W s b && is_in P.F (stepped i s) b) in
-          let E : (eqb i w && (is_in P.D s w && is_in P.W (stepped i s) w)) ≡ false = ap (λ x. x && (is_in P.D s w && is_in P.W (stepped i s) w)) (is_false (eqb i w) (test_ne i w ne)) in
+          let E : (eqb i w && (is_in P.D s w && is_in P.W (stepped i s) w)) ≡ false = grind (arith, nat_tests) in
           let e : arm_at (stepped i s) w ≡ cond Z (counted (i - 1) (w - 1) (arm_at s w)) (arm_at s w) =
           tallied_other (i - 1) (phase_at s i) q (base i lo hi) (w - 1) (let x = base_length i lo hi in omega arith) (omega arith)
           ∙ ap (λ a. cond Z (counted (i - 1) (w - 1) a) a) (base_other i lo hi w wlo (λ z. ne (sym z))) in
-          subst (λ x. Row (arm_at (stepped i s) w) (cond x 0 (cond N (k + 1) k)) (cond x (is_in P.I s b) o)) (sym E)
-          (subst (λ a. Row a (cond N (k + 1) k) o) (sym e)
-          (other_kept Z N
-          (λ t.
-          let x = and_T (eqb i b) (is_in P.W s b && is_in P.F (stepped i s) b) t in
-          let y = and_T (is_in P.W s b) (is_in P.F (stepped i s) b) x.1 in
-          let ib : i ≡ b = eqb→eq i b x.0 in
-          (ib, T_and (is_in P.W s i) (same_phase q P.F) (subst (λ v. T (is_in P.W s v)) (sym ib) y.0) (subst (λ z. T (same_phase z P.F)) (phase_own i lo hi) (subst (λ v. T (is_in P.F (stepped i s) v)) (sym ib) y.1))))
-          (λ d ib z.
-          let y = and_T (is_in P.W s i) (same_phase q P.F) z in
-          clash N (T_and (eqb i b) (is_in P.W s b && is_in P.F (stepped i s) b) (subst (λ v. T (eqb i v)) ib (eqb_refl i))
-          (T_and (is_in P.W s b) (is_in P.F (stepped i s) b) (subst (λ v. T (is_in P.W s v)) ib y.0) (subst (λ v. T (is_in P.F (stepped i s) v)) ib (subst (λ z. T (same_phase z P.F)) (sym (phase_own i lo hi)) y.1)))) d)))
+          let x = phase_own i lo hi in
+          rw (E, e) (other_kept Z N (λ t. grind (arith, nat_tests)) (λ d ib z. grind (arith, nat_tests)))
 
     -- any call
     abbrev Told : State → (ℕ → Bool) → ℕ → Bool → Type 0
@@ -250,11 +165,7 @@ module _ (w b n : ℕ) (wlo : 1 ≤ w) (whi : w ≤ n) (blo : 1 ≤ b) (bhi : b 
         (cond (st w && (is_in P.D s w && is_in P.W t w)) (is_in P.I s b) o)
 
     by_refusal : (c : Call) (k : ℕ) (o : Bool) → Row (arm_at s w) k o → (refusal_of s c ≡ None → Told (done s c) (λ v. step_of v c) k o) → Told (after s c) (λ v. no_refusal (refusal_of s c) && step_of v c) k o
-    by_refusal c k o h f = go (refusal_of s c) f
-      where
-        go : (x : Option Refusal) → (x ≡ None → Told (done s c) (λ v. step_of v c) k o) → Told (unless x (done s c) s) (λ v. no_refusal x && step_of v c) k o
-        go None f = f refl
-        go (Some x) f = h
+    by_refusal c k o h f = by_answer (refusal_of s c) (done s c) s (λ t y. Told t (λ v. y && step_of v c) k o) f h
 
     row_call : s.n ≡ n → (c : Call) (k : ℕ) (o : Bool) → (T (is_in P.W s w) → k ≤ 2) → Row (arm_at s w) k o
         → Row (arm_at (after s c) w) (cond (ends_doorway w s c) 0 (cond (goes_inside b s c) (k + 1) k)) (cond (ends_doorway w s c) (is_in P.I s b) o)

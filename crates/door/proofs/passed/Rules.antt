@@ -1,8 +1,8 @@
 -- The machine shows the three rules: every move of it is a change of its meaning.
-use Rattle.std.proofs.Common.{◌≡◌, ℕ, Bool, not, T, sym, refl, ap, subst, ⊎_elim, arith}
+use Rattle.std.proofs.Common.{◌≡◌, ℕ, Bool, true, not, T, sym, ap, subst, ⊎_elim, arith}
 use Rattle.door.specs.Positions.{phase_of}
 use Rattle.door.specs.declared.position.Place.{Place}
-use Rattle.door.proofs.machine.Machine.{Stance, idle, d1, d2, d3, d4, d5, waits, inside, x1, x2, position, has, step_waiting, step_arm, begin_arm, admit_arm, leave_arm, turn_step, Move, begin, step, admit, leave, act, turn, without_access, changed_same, changed_other, Machine, moved}
+use Rattle.door.proofs.machine.Machine.{Stance, idle, d1, d2, d3, d4, d5, waits, inside, x1, x2, position, has, step_waiting, step_arm, turn_step, Move, begin, step, admit, leave, act, turn, changed_same, changed_other, Machine, moved}
 use Rattle.door.proofs.machine.Invariant.{Own, Inv, Free, Ranged, wait_own}
 use Rattle.door.proofs.rounds.Waiting.{wait_out}
 use Rattle.door.proofs.passed.Meaning.{Stage, resting, coming, read, waiting, inside as within, leaving, turned, has as stage_has, phase, Goes, rests, begins, reads, ends, enters, leaves, turns, quits, Meaning, Change}
@@ -24,16 +24,7 @@ meaning g = record { bit = g.group; arms = λ k. stage (g.arms k) }
 
 -- it has the same phase
 pub stage_phase : (a : Stance) → phase (stage a) ≡ phase_of (position a)
-stage_phase (idle g) = refl
-stage_phase (d1 g) = refl
-stage_phase (d2 g) = refl
-stage_phase (d3 s g) = refl
-stage_phase (d4 s) = refl
-stage_phase (d5 s) = refl
-stage_phase (waits s j p) = refl
-stage_phase (inside s o) = refl
-stage_phase (x1 s) = refl
-stage_phase (x2 s) = refl
+stage_phase a = grind arith
 
 stage_side : (a : Stance) (t : Bool) → T (stage_has t (stage a)) → T (has t a)
 stage_side a t h = grind arith
@@ -48,25 +39,19 @@ module _ (n : ℕ) (β : Bool) (arms : ℕ → Stance) (range : Ranged n arms) w
       (wait_out n β (arms j) s j p)
 
   step_goes : (a : Stance) → Own n β arms a → Goes β (λ k. stage (arms k)) (stage a) (stage (step_arm n β arms a)) (turn_step β a)
-  step_goes (idle g) o = rests
-  step_goes (d1 g) o = rests
   step_goes (d2 g) o = reads
-  step_goes (d3 s g) o = rests
-  step_goes (d4 s) o = rests
   step_goes (d5 s) o = ends
   step_goes (waits s j p) o = wait_goes s j p o
-  step_goes (inside s x) o = rests
   step_goes (x1 s) o = turns
   step_goes (x2 s) o = quits
-
-  without_goes : (a : Stance) → Goes β (λ k. stage (arms k)) (stage a) (stage (begin_arm a)) β × Goes β (λ k. stage (arms k)) (stage a) (stage (admit_arm a)) β × Goes β (λ k. stage (arms k)) (stage a) (stage (leave_arm a)) β
-  without_goes = without_access (λ a a'. Goes β (λ k. stage (arms k)) (stage a) (stage a') β) (λ a. rests) (λ g. begins) (λ s o. rests) (λ s. leaves)
+  step_goes a o = rests
 
   act_goes : (m : Move) (a : Stance) → Own n β arms a → Goes β (λ k. stage (arms k)) (stage a) (stage (act m n β arms a)) (turn m β a)
-  act_goes begin a o = (without_goes a).0
+  act_goes begin (idle g) o = begins
   act_goes step a o = step_goes a o
-  act_goes admit a o = (without_goes a).1
-  act_goes leave a o = (without_goes a).2
+  act_goes admit (inside s x) o = rests
+  act_goes leave (inside s true) o = leaves
+  act_goes m a o = rests
 
 pub move_change : (g : Machine) → Inv g → (m : Move) (i : ℕ) → Change (meaning g) (meaning (moved g m i)) i
 move_change g inv m i = record {

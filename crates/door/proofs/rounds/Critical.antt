@@ -1,13 +1,14 @@
 -- A critical arm: its next accepted step, admit or leave lowers the potential, and until then it stays critical or the potential falls.
 use Rattle.std.proofs.Common.{◌≡◌, ℕ, ◌+◌, ◌≤◌, Bool, true, false, cond, not, ◌&&◌, T, eqb, ◌≢◌, ◌⊎◌, sym, refl, ◌∙◌, subst, inl, inr, ⊎_elim, arith}
+use Rattle.std.proofs.lemmas.Bool.Decides.{nat_tests}
 use Rattle.std.proofs.lemmas.Bool.{cases_eq}
 use Rattle.door.specs.declared.position.Phase.TheVariants as P
 use Rattle.door.specs.declared.position.Place.{Place}
-use Rattle.door.proofs.Bools.{same, same_other, opposite, test, clash, none_of, and_T, T_and, by, ne_test, test_ne}
-use Rattle.door.proofs.machine.Machine.{Stance, idle, d1, d2, d3, d4, d5, waits, inside, x1, x2, at, has, choosing, outcome, step_arm, turn_step, Move, begin, step, admit, leave, act, turn, allowed, changed_other, Machine, moved_to, moved}
+use Rattle.door.proofs.Bools.{same, test, clash, none_of, and_T, ne_test}
+use Rattle.door.proofs.machine.Machine.{Stance, waits, x1, at, has, choosing, step_arm, turn_step, Move, step, act, turn, allowed, changed_other, Machine, moved_to, moved}
 use Rattle.door.proofs.machine.Invariant.{Own, Inv, seen_act, changed_seen}
-use Rattle.door.proofs.rounds.Waiting.{Waiting, Entry, only_steps, not_both, D_awake, has_awake, choosing_D, find, has_own, index_in, move_out}
-use Rattle.door.proofs.rounds.Potential.{Fit, budget_act, budget_act_critical, paid, turn_away, place_act, potential}
+use Rattle.door.proofs.rounds.Waiting.{Waiting, Entry, only_steps, not_both, D_awake, has_awake, find, has_own, index_in, move_out}
+use Rattle.door.proofs.rounds.Potential.{budget, Fit, budget_act, budget_act_critical, paid, turn_away, place_act, potential}
 use Rattle.door.proofs.rounds.Falls.{fit_of, potential_other, potential_own}
 
 abbrev Quiet : (ℕ → Stance) → Type 0
@@ -19,84 +20,41 @@ pub data Critical (g : Machine) (w : ℕ) (s : Bool) (b : ℕ) : Type 0 where
   self : b ≡ w → Quiet g.arms → (T (same g.group s) → (k : ℕ) → T (has (not s) (g.arms k)) → ⊥) → Critical g w s b
 
 -- tables
-quiet_step : (n : ℕ) (β : Bool) (arms : ℕ → Stance) (a : Stance) → T (not (at P.D a)) → T (not (choosing (step_arm n β arms a)))
-quiet_step n β arms (idle g) d = tt
-quiet_step n β arms (d1 g) d = absurd d
-quiet_step n β arms (d2 g) d = absurd d
-quiet_step n β arms (d3 s g) d = absurd d
-quiet_step n β arms (d4 s) d = absurd d
-quiet_step n β arms (d5 s) d = tt
-quiet_step n β arms (waits s j p) d = outcome (λ r. T (not (choosing r))) n β (arms j) s (λ j p. tt) tt j p
-quiet_step n β arms (inside s o) d = tt
-quiet_step n β arms (x1 s) d = tt
-quiet_step n β arms (x2 s) d = tt
-
 pub quiet_act : (m : Move) (n : ℕ) (β : Bool) (arms : ℕ → Stance) (a : Stance) → T (not (choosing a)) → T (not (paid m a)) → T (not (choosing (act m n β arms a)))
-quiet_act begin n β arms a c d = grind arith
-quiet_act step n β arms a c d = quiet_step n β arms a d
-quiet_act admit n β arms a c d = grind arith
-quiet_act leave n β arms a c d = grind arith
+quiet_act m n β arms a c d = grind arith
 
 not_D : (m : Move) (a : Stance) (t : Bool) → T (has t a) → T (not (choosing a)) → T (not (paid m a))
-not_D begin a t h c = tt
-not_D step a t h c = grind arith
-not_D admit a t h c = tt
-not_D leave a t h c = tt
+not_D m a t h c = grind arith
 
 D_moves : (m : Move) (a : Stance) → T (at P.D a) → T (allowed m a) → T (paid m a)
-D_moves begin a h k = grind arith
-D_moves step a h k = h
-D_moves admit a h k = grind arith
-D_moves leave a h k = grind arith
+D_moves m a h k = grind arith
 
 wait_unpaid : (m : Move) (s : Bool) (j : ℕ) (p : Place) → T (paid m (waits s j p)) → ⊥
-wait_unpaid begin s j p h = h
-wait_unpaid step s j p h = h
-wait_unpaid admit s j p h = h
-wait_unpaid leave s j p h = h
-
-choosing_awake : (a : Stance) → T (choosing a) → T (not (at P.I a))
-choosing_awake a h = grind arith
-
-wait_calm : (s : Bool) (j : ℕ) (p : Place) → T (choosing (waits s j p)) → ⊥
-wait_calm s j p h = h
+wait_unpaid m s j p h = grind arith
 
 module _ (g : Machine) (inv : Inv g) (w : ℕ) (s : Bool) (j : ℕ) (p : Place) (e : g.arms w ≡ waits s j p) where
   fit : (i : ℕ) → Fit g.group s (g.arms i)
   fit i = fit_of g w s (has_own g inv w s j p e) (g.arms i) (inv.own i)
 
+  -- another arm moves
+  other_falls : (m : Move) (i : ℕ) → i ≢ w → 1 ≤ i → i ≤ g.n → (c : ℕ) → budget (same (turn m g.group (g.arms i)) s) s (act m g.n g.group g.arms (g.arms i)) + c ≤ budget (same g.group s) s (g.arms i)
+      → potential s (moved g m i) w + c ≤ potential s g w + cond (paid m (g.arms i)) 2 0
+  other_falls m i ne lo hi c low =
+      potential_other g w s j p e i ne lo hi (turn m g.group (g.arms i)) (act m g.n g.group g.arms (g.arms i)) c (cond (paid m (g.arms i)) 2 0)
+      (turn_away m g.group s (g.arms i) (fit i)) low
+      (λ q. place_act m g.n g.group g.arms s (g.arms i) p (fit i) (turn_away m g.group s (g.arms i) (fit i) q))
+
   other_paid : (m : Move) (i : ℕ) → i ≢ w → 1 ≤ i → i ≤ g.n → T (paid m (g.arms i)) → potential s (moved g m i) w + 1 ≤ potential s g w
-  other_paid m i ne lo hi d =
-      let x = potential_other g w s j p e i ne lo hi (turn m g.group (g.arms i)) (act m g.n g.group g.arms (g.arms i)) (cond (paid m (g.arms i)) 3 0) (cond (paid m (g.arms i)) 2 0)
-      (turn_away m g.group s (g.arms i) (fit i)) (budget_act m g.n g.group g.arms s (g.arms i) (fit i))
-      (λ q. place_act m g.n g.group g.arms s (g.arms i) p (fit i) (turn_away m g.group s (g.arms i) (fit i) q)) in
-      pay (paid m (g.arms i)) d _ _ x
-    where
-      pay : (b : Bool) → T b → (x y : ℕ) → x + cond b 3 0 ≤ y + cond b 2 0 → x + 1 ≤ y
-      pay true h x y l = omega arith
-      pay false h x y l = absurd h
+  other_paid m i ne lo hi d = let x = other_falls m i ne lo hi _ (budget_act m g.n g.group g.arms s (g.arms i) (fit i)) in grind arith
 
   other_le : (m : Move) (i : ℕ) → i ≢ w → 1 ≤ i → i ≤ g.n → potential s (moved g m i) w ≤ potential s g w
-  other_le m i ne lo hi =
-      let x = potential_other g w s j p e i ne lo hi (turn m g.group (g.arms i)) (act m g.n g.group g.arms (g.arms i)) (cond (paid m (g.arms i)) 3 0) (cond (paid m (g.arms i)) 2 0)
-      (turn_away m g.group s (g.arms i) (fit i)) (budget_act m g.n g.group g.arms s (g.arms i) (fit i))
-      (λ q. place_act m g.n g.group g.arms s (g.arms i) p (fit i) (turn_away m g.group s (g.arms i) (fit i) q)) in
-      pay (paid m (g.arms i)) _ _ x
-    where
-      pay : (b : Bool) (x y : ℕ) → x + cond b 3 0 ≤ y + cond b 2 0 → x ≤ y
-      pay true x y l = omega arith
-      pay false x y l = omega arith
+  other_le m i ne lo hi = let x = other_falls m i ne lo hi _ (budget_act m g.n g.group g.arms s (g.arms i) (fit i)) in grind arith
 
   foe_falls : (m : Move) (i : ℕ) → i ≢ w → 1 ≤ i → i ≤ g.n → T (same g.group s) → T (has (not s) (g.arms i)) → Quiet g.arms → T (allowed m (g.arms i)) → potential s (moved g m i) w + 1 ≤ potential s g w
   foe_falls m i ne lo hi q h quiet k =
-      let x = potential_other g w s j p e i ne lo hi (turn m g.group (g.arms i)) (act m g.n g.group g.arms (g.arms i)) 1 (cond (paid m (g.arms i)) 2 0)
-      (turn_away m g.group s (g.arms i) (fit i)) (budget_act_critical m g.n g.group g.arms s (g.arms i) (fit i) q h quiet k)
-      (λ q. place_act m g.n g.group g.arms s (g.arms i) p (fit i) (turn_away m g.group s (g.arms i) (fit i) q)) in
-      pay (paid m (g.arms i)) (not_D m (g.arms i) (not s) h (quiet i)) _ _ x
-    where
-      pay : (b : Bool) → T (not b) → (x y : ℕ) → x + 1 ≤ y + cond b 2 0 → x + 1 ≤ y
-      pay true h x y l = absurd h
-      pay false h x y l = omega arith
+      let x = other_falls m i ne lo hi 1 (budget_act_critical m g.n g.group g.arms s (g.arms i) (fit i) q h quiet k) in
+      let y = not_D m (g.arms i) (not s) h (quiet i) in
+      grind arith
 
   -- the waiting arm steps
   own_potential : (k : Bool) → (T k → Quiet g.arms) → (T k → T (same g.group s) → (b : ℕ) → T (has (not s) (g.arms b)) → ⊥) → potential s (moved g step w) w + cond k 1 0 ≤ potential s g w
@@ -106,32 +64,11 @@ module _ (g : Machine) (inv : Inv g) (w : ℕ) (s : Bool) (j : ℕ) (p : Place) 
 
   -- the group stays s where an arm with the other side stands against it
   foe_holds : (b : ℕ) → T (same g.group s) → T (has (not s) (g.arms b)) → (m : Move) (a : Stance) → Own g.n g.group g.arms a → T (same (turn m g.group a) s)
-  foe_holds b q h begin a o = q
-  foe_holds b q h admit a o = q
-  foe_holds b q h leave a o = q
-  foe_holds b q h step (idle x) o = q
-  foe_holds b q h step (d1 x) o = q
-  foe_holds b q h step (d2 x) o = q
-  foe_holds b q h step (d3 u x) o = q
-  foe_holds b q h step (d4 u) o = q
-  foe_holds b q h step (d5 u) o = q
-  foe_holds b q h step (waits u x y) o = q
-  foe_holds b q h step (inside u x) o = q
-  foe_holds b q h step (x1 u) o = ⊎_elim (λ y. absurd (split_up (g.arms b) g.group s u y q h (o b))) (λ d. same_other u s d) (test (same u s))
-    where
-      split_up : (a : Stance) (β s u : Bool) → T (same u s) → T (same β s) → T (has (not s) a) → (T (has (not u) a) → T (same β (not u))) → ⊥
-      split_up a true true true y q h f = f h
-      split_up a true true false y q h f = y
-      split_up a true false u y q h f = q
-      split_up a false true u y q h f = q
-      split_up a false false true y q h f = y
-      split_up a false false false y q h f = f h
-  foe_holds b q h step (x2 u) o = q
+  foe_holds b q h step (x1 u) o = let x = o b in grind arith
+  foe_holds b q h m a o = q
 
   quiet_after : (m : Move) (i : ℕ) → Quiet g.arms → T (not (paid m (g.arms i))) → Quiet (moved g m i).arms
-  quiet_after m i quiet d k =
-      by (λ x. T (not (choosing x))) (eqb k i) (act m g.n g.group g.arms (g.arms i)) (g.arms k)
-      (λ t. quiet_act m g.n g.group g.arms (g.arms i) (quiet i) d) (λ t. quiet k)
+  quiet_after m i quiet d k = let x = quiet_act m g.n g.group g.arms (g.arms i) (quiet i) d in let y = quiet k in grind (arith, nat_tests)
 
   -- the move of another arm than b
   pub critical_stays : (m : Move) (i : ℕ) → 1 ≤ i → i ≤ g.n → (b : ℕ) → i ≢ b → Critical g w s b → Waiting s ((moved g m i).arms w) →
@@ -148,7 +85,9 @@ module _ (g : Machine) (inv : Inv g) (w : ℕ) (s : Bool) (j : ℕ) (p : Place) 
       (λ d. inl (other_paid m i (λ z. ne (z ∙ sym x)) lo hi d))
       (λ d. inr (self x (quiet_after m i quiet d) (λ q k h.
       let q' = turn_away m g.group s (g.arms i) (fit i) q in
-      ⊎_elim (λ y. free q' k y.0) (λ y. opposite g.group s q' y) (changed_seen g.group g.arms i _ (seen_act m g.n g.group g.arms (g.arms i)) k (not s) h))))
+      let f = free q' k in
+      let r = changed_seen g.group g.arms i _ (seen_act m g.n g.group g.arms (g.arms i)) k (not s) h in
+      grind arith)))
       (test (paid m (g.arms i)))
 
   -- any allowed move: w goes inside, or waits on and the potential does not rise
@@ -177,22 +116,17 @@ module _ (g : Machine) (inv : Inv g) (w : ℕ) (s : Bool) (j : ℕ) (p : Place) 
   pub critical_exists : (b : ℕ) × (1 ≤ b) × (b ≤ g.n) × T (not (at P.I (g.arms b))) × Critical g w s b
   critical_exists = ⊎_elim
       (λ x. let y = and_T (not (eqb x.0 w)) (at P.D (g.arms x.0)) x.3 in (x.0, x.1, x.2, D_awake (g.arms x.0) y.1, door (ne_test x.0 w y.0) y.1))
-      (λ none. calm (λ k. ⊎_elim (λ c. absurd (busy none k c)) (λ d. d) (test (choosing (g.arms k)))))
+      (λ none. calm (λ k. let free = none k in let r = inv.awake k in grind (arith, nat_tests)))
       (find (λ k. not (eqb k w) && at P.D (g.arms k)) g.n)
     where
-      busy : ((k : ℕ) → 1 ≤ k → k ≤ g.n → T (not (not (eqb k w) && at P.D (g.arms k)))) → (k : ℕ) → T (choosing (g.arms k)) → ⊥
-      busy none k c =
-          let r = inv.awake k (choosing_awake (g.arms k) c) in
-          clash (not (eqb k w) && at P.D (g.arms k)) (T_and (not (eqb k w)) (at P.D (g.arms k)) (test_ne k w (λ q. wait_calm s j p (subst (λ y. T (choosing y)) e (subst (λ y. T (choosing (g.arms y))) q c)))) (choosing_D (g.arms k) c)) (none k r.0 r.1)
-
-      w_awake : T (not (at P.I (g.arms w)))
-      w_awake = subst (λ y. T (not (at P.I y))) (sym e) tt
+      awake : T (not (at P.I (g.arms w))) × (1 ≤ w) × (w ≤ g.n)
+      awake = let r = inv.awake w in grind arith
 
       calm : Quiet g.arms → (b : ℕ) × (1 ≤ b) × (b ≤ g.n) × T (not (at P.I (g.arms b))) × Critical g w s b
       calm quiet = ⊎_elim
-          (λ q. ⊎_elim
-          (λ x. (x.0, x.1, x.2, has_awake (g.arms x.0) (not s) x.3, foe quiet q x.3))
-          (λ none. (w, (inv.awake w w_awake).0, (inv.awake w w_awake).1, w_awake, self refl quiet (λ q k h. let r = inv.range k (not s) h in clash (has (not s) (g.arms k)) h (none k r.0 r.1))))
-          (find (λ k. has (not s) (g.arms k)) g.n))
-          (λ d. (w, (inv.awake w w_awake).0, (inv.awake w w_awake).1, w_awake, self refl quiet (λ q. absurd (clash (same g.group s) q d))))
-          (test (same g.group s))
+          (λ x. ⊎_elim
+          (λ q. (x.0, x.1, x.2, has_awake (g.arms x.0) (not s) x.3, foe quiet q x.3))
+          (λ d. (w, awake.1, awake.2, awake.0, self refl quiet (λ q. absurd (clash (same g.group s) q d))))
+          (test (same g.group s)))
+          (λ none. (w, awake.1, awake.2, awake.0, self refl quiet (λ q k h. let r = inv.range k (not s) h in clash (has (not s) (g.arms k)) h (none k r.0 r.1))))
+          (find (λ k. has (not s) (g.arms k)) g.n)

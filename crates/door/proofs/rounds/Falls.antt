@@ -1,33 +1,19 @@
 -- How the potential of a waiting arm changes with a move.
-use Rattle.std.proofs.Common.{◌≡◌, ℕ, ◌+◌, ◌*◌, ◌≤◌, Bool, true, false, cond, not, T, eqb, ◌≢◌, sym, ap, ◌∙◌, subst, arith, eqb→eq}
+use Rattle.std.proofs.Common.{◌≡◌, ℕ, ◌+◌, ◌*◌, ◌≤◌, Bool, cond, not, T, ◌≢◌, sym, ap, ◌∙◌, subst, arith}
+use Rattle.std.proofs.lemmas.Bool.Decides.{nat_tests}
 use Rattle.door.specs.declared.position.Place.{Place}
-use Rattle.door.proofs.Bools.{same, by, test_ne}
-use Rattle.door.proofs.machine.Machine.{Stance, idle, d1, d2, d3, d4, d5, waits, inside, x1, x2, has, choosing, flag, step_waiting, changed, changed_same, changed_other, Machine, moved_to}
+use Rattle.door.proofs.Bools.{same}
+use Rattle.door.proofs.machine.Machine.{Stance, waits, has, choosing, flag, step_waiting, changed, changed_same, changed_other, Machine, moved_to}
 use Rattle.door.proofs.machine.Invariant.{Own}
-use Rattle.door.proofs.rounds.Potential.{budget, place_rank, rank, rank_of, total, total_le, total_drop, total_bound, budget_bound, Fit, budget_falls, rank_low, keeps_look, wait_rank, mask, potential, mask_on, mask_off, mask_le, free_rank}
+use Rattle.door.proofs.rounds.Potential.{budget, place_rank, rank, rank_of, total, total_le, total_drop, total_bound, budget_bound, Fit, budget_falls, keeps_look, wait_rank, mask, potential}
 
 -- what the invariant says of each arm while one with side s waits
 pub fit_of : (g : Machine) (w : ℕ) (s : Bool) → T (has s (g.arms w)) → (a : Stance) → Own g.n g.group g.arms a → Fit g.group s a
-fit_of g w s h (idle x) o = tt
-fit_of g w s h (d1 x) o = tt
-fit_of g w s h (d2 x) o = tt
-fit_of g w s h (d3 u x) o = tt
-fit_of g w s h (d4 u) o = tt
-fit_of g w s h (d5 u) o = tt
-fit_of g w s h (waits u j p) o = tt
-fit_of g w s h (inside u x) o = tt
-fit_of g w s h (x1 u) o = λ q. o w (move_side (g.arms w) s (not u) q h)
-  where
-    move_side : (a : Stance) (s u : Bool) → T (same u s) → T (has s a) → T (has u a)
-    move_side a s u q h = grind arith
-fit_of g w s h (x2 u) o = o
+fit_of g w s h a o = grind arith
 
 rank_others : (e e' : Bool) (n : ℕ) (s : Bool) (a a' : Stance) (j : ℕ) (p : Place) (c : ℕ) → (T e' → T e) → (T e' → place_rank (has (not s) a') (flag a') p ≤ place_rank (has (not s) a) (flag a) p + c) →
     rank e' n s a' j p ≤ rank e n s a j p + c
-rank_others true true n s a a' j p c f h = let x = h tt in omega arith
-rank_others true false n s a a' j p c f h = let x = rank_low true n s a' a j p in omega arith
-rank_others false true n s a a' j p c f h = absurd (f tt)
-rank_others false false n s a a' j p c f h = let x = rank_low false n s a' a j p in omega arith
+rank_others e e' n s a a' j p c f h = grind arith
 
 module _ (g : Machine) (w : ℕ) (s : Bool) (j : ℕ) (p : Place) (e : g.arms w ≡ waits s j p) where
   -- another arm's move, by what it does to that arm's budget and to the rank
@@ -41,46 +27,22 @@ module _ (g : Machine) (w : ℕ) (s : Bool) (j : ℕ) (p : Place) (e : g.arms w 
       let arms' : ℕ → Stance = changed g.arms i a in
       let here : arms' w ≡ waits s j p = changed_other g.arms i a w (λ q. ne (sym q)) ∙ e in
       let r : rank E' g.n s (arms' j) j p ≤ rank E g.n s (g.arms j) j p + d = rank_others E E' g.n s (g.arms j) (arms' j) j p d away
-      (λ q. by (λ x. place_rank (has (not s) x) (flag x) p ≤ place_rank (has (not s) (g.arms j)) (flag (g.arms j)) p + d) (eqb j i) a (g.arms j)
-      (λ t. subst (λ y. place_rank (has (not s) a) (flag a) p ≤ place_rank (has (not s) (g.arms y)) (flag (g.arms y)) p + d) (sym (eqb→eq j i t)) (rise q))
-      (λ t. omega arith)) in
+      (λ q. let x = rise q in grind (arith, nat_tests)) in
       let r₁ : rank_of E' g.n s arms' (arms' w) ≡ rank E' g.n s (arms' j) j p = ap (rank_of E' g.n s arms') here in
       let r₂ : rank_of E g.n s g.arms (g.arms w) ≡ rank E g.n s (g.arms j) j p = ap (rank_of E g.n s g.arms) e in
       let t : total (mask E' s arms' w) g.n + c ≤ total (mask E s g.arms w) g.n = total_drop (mask E' s arms' w) (mask E s g.arms w) g.n c i
-      (λ k. by (λ x. cond (eqb k w) 0 (budget E' s x) ≤ cond (eqb k w) 0 (budget E s (g.arms k))) (eqb k i) a (g.arms k)
-      (λ q. mask_le (eqb k w) _ _ (subst (λ y. budget E' s a ≤ budget E s (g.arms y)) (sym (eqb→eq k i q)) (omega arith)))
-      (λ q. mask_le (eqb k w) _ _ (budget_falls E E' s (g.arms k) away)))
+      (λ k. let x = budget_falls E E' s (g.arms k) away in grind (arith, nat_tests))
       lo hi
-      (mask_off (eqb i w) _ _ c (test_ne i w ne) (subst (λ y. budget E' s y + c ≤ budget E s (g.arms i)) (sym (changed_same g.arms i a)) low)) in
+      (let x = low in grind (arith, nat_tests)) in
       omega arith
 
-place_high : (o f : Bool) (p : Place) → place_rank o f p ≤ 6
-place_high o f p = grind arith
-
-free_high : (p : Place) → free_rank p ≤ 5
-free_high p = grind arith
-
 rank_bound : (e : Bool) (n : ℕ) (s : Bool) (a : Stance) (j : ℕ) (p : Place) → 1 ≤ j → j ≤ n → rank e n s a j p ≤ 6 * n + 5
-rank_bound true n s a j p lo hi = let x = place_high (has (not s) a) (flag a) p in omega arith
-rank_bound false n s a j p lo hi = let x = free_high p in omega arith
+rank_bound e n s a j p lo hi = grind arith
 
 -- the rank does not rise where the arm w itself looks no worse
 rank_keeps : (e : Bool) (n : ℕ) (s : Bool) (arms : ℕ → Stance) (w : ℕ) (r : Stance) → ((p : Place) → place_rank (has (not s) r) (flag r) p ≤ place_rank (has (not s) (arms w)) (flag (arms w)) p) →
     (x : Stance) → rank_of e n s (changed arms w r) x ≤ rank_of e n s arms x
-rank_keeps e n s arms w r h (idle y) = omega arith
-rank_keeps e n s arms w r h (d1 y) = omega arith
-rank_keeps e n s arms w r h (d2 y) = omega arith
-rank_keeps e n s arms w r h (d3 u y) = omega arith
-rank_keeps e n s arms w r h (d4 u) = omega arith
-rank_keeps e n s arms w r h (d5 u) = omega arith
-rank_keeps e n s arms w r h (inside u y) = omega arith
-rank_keeps e n s arms w r h (x1 u) = omega arith
-rank_keeps e n s arms w r h (x2 u) = omega arith
-rank_keeps true n s arms w r h (waits u j p) =
-    by (λ y. rank true n s y j p ≤ rank true n s (arms j) j p) (eqb j w) r (arms j)
-    (λ t. let q : place_rank (has (not s) r) (flag r) p ≤ place_rank (has (not s) (arms j)) (flag (arms j)) p = subst (λ y. place_rank (has (not s) r) (flag r) p ≤ place_rank (has (not s) (arms y)) (flag (arms y)) p) (sym (eqb→eq j w t)) (h p) in omega arith)
-    (λ t. omega arith)
-rank_keeps false n s arms w r h (waits u j p) = omega arith
+rank_keeps e n s arms w r h x = grind (arith, nat_tests, h)
 
 module _ (g : Machine) (w : ℕ) (s : Bool) (j : ℕ) (p : Place) (e : g.arms w ≡ waits s j p) where
   -- the waiting arm's own step
@@ -97,8 +59,7 @@ module _ (g : Machine) (w : ℕ) (s : Bool) (j : ℕ) (p : Place) (e : g.arms w 
       let r₁ : rank_of E g.n s arms' (arms' w) ≡ rank_of E g.n s arms' r = ap (rank_of E g.n s arms') (changed_same g.arms w r) in
       let r₂ : rank_of E g.n s g.arms (g.arms w) ≡ rank E g.n s (g.arms j) j p = ap (rank_of E g.n s g.arms) e in
       let t : total (mask E s arms' w) g.n ≤ total (mask E s g.arms w) g.n = total_le (mask E s arms' w) (mask E s g.arms w) g.n
-      (λ q. by (λ x. cond (eqb q w) 0 (budget E s x) ≤ cond (eqb q w) 0 (budget E s (g.arms q))) (eqb q w) r (g.arms q)
-      (λ y. mask_on (eqb q w) _ _ y) (λ y. omega arith)) in
+      (λ q. grind (arith, nat_tests)) in
       omega arith
 
   pub potential_bound : 1 ≤ j → j ≤ g.n → potential s g w ≤ 50 * g.n + 5
@@ -106,5 +67,5 @@ module _ (g : Machine) (w : ℕ) (s : Bool) (j : ℕ) (p : Place) (e : g.arms w 
       let E : Bool = same g.group s in
       let r₁ = rank_bound E g.n s (g.arms j) j p lo hi in
       let r₂ : rank_of E g.n s g.arms (g.arms w) ≡ rank E g.n s (g.arms j) j p = ap (rank_of E g.n s g.arms) e in
-      let t = total_bound (mask E s g.arms w) g.n 44 (λ k. by (λ x. x ≤ 44) (eqb k w) 0 (budget E s (g.arms k)) (λ q. omega arith) (λ q. budget_bound E s (g.arms k))) in
+      let t = total_bound (mask E s g.arms w) g.n 44 (λ k. let x = budget_bound E s (g.arms k) in grind arith) in
       omega arith

@@ -1,11 +1,12 @@
 -- The potential of a waiting arm: its own rank, and a budget for each other arm.
-use Rattle.std.proofs.Common.{ℕ, zero, suc, ◌+◌, ◌-◌, ◌*◌, ◌≤◌, Bool, true, false, cond, not, T, eqb, ltb, ◌≢◌, subst, ⊎_elim, arith, ltb→lt}
+use Rattle.std.proofs.Common.{ℕ, zero, suc, ◌+◌, ◌-◌, ◌*◌, ◌≤◌, Bool, true, false, cond, not, T, eqb, ◌≢◌, subst, ⊎_elim, arith}
+use Rattle.std.proofs.lemmas.Bool.Decides.{nat_tests}
 use Rattle.std.proofs.lemmas.Bool.{cases_eq}
 use Rattle.door.specs.declared.position.Phase.TheVariants as P
 use Rattle.door.specs.declared.position.Place.{Place}
 use Rattle.door.specs.declared.position.Place.TheVariants.{W1, W2, W3, W4, W5, W6}
-use Rattle.door.proofs.Bools.{same, same_trans, clash, by}
-use Rattle.door.proofs.machine.Machine.{Stance, idle, d1, d2, d3, d4, d5, waits, inside, x1, x2, at, has, choosing, mygroup, flag, next, step_waiting, outcome, step_arm, begin_arm, admit_arm, leave_arm, turn_step, Move, begin, step, admit, leave, act, turn, may_step, allowed, Machine}
+use Rattle.door.proofs.Bools.{same}
+use Rattle.door.proofs.machine.Machine.{Stance, idle, d1, d2, d3, d4, d5, waits, inside, x1, x2, at, has, choosing, flag, step_waiting, outcome, Move, step, act, turn, allowed, Machine}
 
 abbrev pub place_cost : Place → ℕ
 place_cost W1 = 35
@@ -50,16 +51,8 @@ rank true n s a j p = 6 * (n - j) + 5 + place_rank (has (not s) a) (flag a) p
 rank false n s a j p = free_rank p
 
 abbrev pub rank_of : Bool → ℕ → Bool → (ℕ → Stance) → Stance → ℕ
-rank_of e n s arms (idle g) = 0
-rank_of e n s arms (d1 g) = 0
-rank_of e n s arms (d2 g) = 0
-rank_of e n s arms (d3 u g) = 0
-rank_of e n s arms (d4 u) = 0
-rank_of e n s arms (d5 u) = 0
 rank_of e n s arms (waits u j p) = rank e n s (arms j) j p
-rank_of e n s arms (inside u o) = 0
-rank_of e n s arms (x1 u) = 0
-rank_of e n s arms (x2 u) = 0
+rank_of e n s arms a = 0
 
 -- a sum over the arms 1 to n
 abbrev pub total : (ℕ → ℕ) → ℕ → ℕ
@@ -82,279 +75,48 @@ total_bound f zero c le = omega arith
 total_bound f (suc n) c le = let x = total_bound f n c le in let y = le (suc n) in omega arith
 
 pub budget_bound : (e s : Bool) (a : Stance) → budget e s a ≤ 44
-budget_bound e s (idle g) = grind arith
-budget_bound e s (d1 g) = grind arith
-budget_bound e s (d2 g) = grind arith
-budget_bound e s (d3 u g) = grind arith
-budget_bound e s (d4 u) = grind arith
-budget_bound e s (d5 u) = grind arith
-budget_bound e s (waits u j p) = grind arith
-budget_bound e s (inside u o) = grind arith
-budget_bound e s (x1 u) = grind arith
-budget_bound e s (x2 u) = grind arith
-
--- a turn away from s lowers every budget
-budget_turn : (s : Bool) (a : Stance) → budget false s a ≤ budget true s a
-budget_turn s (idle g) = grind arith
-budget_turn s (d1 g) = grind arith
-budget_turn s (d2 g) = grind arith
-budget_turn s (d3 u g) = grind arith
-budget_turn s (d4 u) = grind arith
-budget_turn s (d5 u) = grind arith
-budget_turn s (waits u j p) = grind arith
-budget_turn s (inside u o) = grind arith
-budget_turn s (x1 u) = grind arith
-budget_turn s (x2 u) = grind arith
+budget_bound e s a = grind arith
 
 -- what the invariant says of another arm while an arm with side s waits
 abbrev pub Fit : Bool → Bool → Stance → Type 0
-Fit β s (idle g) = Unit {0}
-Fit β s (d1 g) = Unit {0}
-Fit β s (d2 g) = Unit {0}
-Fit β s (d3 u g) = Unit {0}
-Fit β s (d4 u) = Unit {0}
-Fit β s (d5 u) = Unit {0}
-Fit β s (waits u j p) = Unit {0}
-Fit β s (inside u o) = Unit {0}
 Fit β s (x1 u) = T (same (not u) s) → T (same β (not u))
 Fit β s (x2 u) = T (same β (not u))
-
-budget_W : (n : ℕ) (β : Bool) (b : Stance) (s u : Bool) (j : ℕ) (p : Place) → budget (same β s) s (step_waiting n β b u j p) ≤ budget (same β s) s (waits u j p)
-budget_W n β b s u j W1 = grind arith
-budget_W n β b s u j W2 = grind arith
-budget_W n β b s u j W3 = grind arith
-budget_W n β b s u j W4 = grind arith
-budget_W n β b s u j W5 = grind arith
-budget_W n β b s u j W6 = grind arith
-
--- the budget of an arm that steps: 3 less in the doorway
-budget_step : (n : ℕ) (β : Bool) (arms : ℕ → Stance) (s : Bool) (a : Stance) → Fit β s a → budget (same (turn_step β a) s) s (step_arm n β arms a) + cond (at P.D a) 3 0 ≤ budget (same β s) s a
-budget_step n β arms s (idle g) f = grind arith
-budget_step n β arms s (d1 g) f = grind arith
-budget_step n β arms s (d2 g) f = grind arith
-budget_step n β arms s (d3 u g) f = grind arith
-budget_step n β arms s (d4 u) f = grind arith
-budget_step n β arms s (d5 u) f = grind arith
-budget_step n β arms s (waits u j p) f = let x = budget_W n β (arms j) s u j p in omega arith
-budget_step n β arms s (inside u o) f = grind arith
-budget_step n β arms s (x1 u) f = grind arith
-budget_step n β arms s (x2 u) f = grind arith
-
--- a critical step of an arm with the other side
-budget_critical_W : (n : ℕ) (β : Bool) (b : Stance) (s u : Bool) (j : ℕ) (p : Place) → T (same β s) → T (same (not s) u) → T (not (choosing b)) → budget (same β s) s (step_waiting n β b u j p) + 1 ≤ budget (same β s) s (waits u j p)
-budget_critical_W n β b s u j W1 q h c = grind arith
-budget_critical_W n β b s u j W2 q h c = grind arith
-budget_critical_W n β b s u j W3 q h c = grind arith
-budget_critical_W n β b s u j W4 q h c = grind arith
-budget_critical_W n β b s u j W5 q h c = grind arith
-budget_critical_W n β b s u j W6 q h c = grind arith
-
-budget_critical : (n : ℕ) (β : Bool) (arms : ℕ → Stance) (s : Bool) (a : Stance) → Fit β s a → T (same β s) → T (has (not s) a) → ((k : ℕ) → T (not (choosing (arms k)))) → T (may_step a) →
-    budget (same (turn_step β a) s) s (step_arm n β arms a) + 1 ≤ budget (same β s) s a
-budget_critical n β arms s (idle g) f q h c k = absurd h
-budget_critical n β arms s (d1 g) f q h c k = absurd h
-budget_critical n β arms s (d2 g) f q h c k = absurd h
-budget_critical n β arms s (d3 u g) f q h c k = grind arith
-budget_critical n β arms s (d4 u) f q h c k = grind arith
-budget_critical n β arms s (d5 u) f q h c k = grind arith
-budget_critical n β arms s (waits u j p) f q h c k = budget_critical_W n β (arms j) s u j p q h (c j)
-budget_critical n β arms s (inside u o) f q h c k = absurd k
-budget_critical n β arms s (x1 u) f q h c k = grind arith
-budget_critical n β arms s (x2 u) f q h c k = grind arith
-
-budget_begin : (e s : Bool) (a : Stance) → budget e s (begin_arm a) ≤ budget e s a
-budget_begin e s a = grind arith
-
-budget_admit : (e s : Bool) (a : Stance) → budget e s (admit_arm a) ≤ budget e s a
-budget_admit e s a = grind arith
-
-budget_leave : (e s : Bool) (a : Stance) → budget e s (leave_arm a) ≤ budget e s a
-budget_leave e s a = grind arith
-
-budget_admit_critical : (e s : Bool) (a : Stance) → T e → T (has (not s) a) → T (allowed admit a) → budget e s (admit_arm a) + 1 ≤ budget e s a
-budget_admit_critical e s a q h k = grind arith
-
-budget_leave_critical : (e s : Bool) (a : Stance) → T e → T (has (not s) a) → T (allowed leave a) → budget e s (leave_arm a) + 1 ≤ budget e s a
-budget_leave_critical e s a q h k = grind arith
+Fit β s a = Unit {0}
 
 abbrev pub paid : Move → Stance → Bool
-paid begin a = false
 paid step a = at P.D a
-paid admit a = false
-paid leave a = false
+paid m a = false
 
--- the budget of an arm that moves
+-- the budget of an arm that moves: 3 less for a step in the doorway, and less where an arm with the other side moves while none is choosing
 pub budget_act : (m : Move) (n : ℕ) (β : Bool) (arms : ℕ → Stance) (s : Bool) (a : Stance) → Fit β s a → budget (same (turn m β a) s) s (act m n β arms a) + cond (paid m a) 3 0 ≤ budget (same β s) s a
-budget_act begin n β arms s a f = let x = budget_begin (same β s) s a in omega arith
-budget_act step n β arms s a f = budget_step n β arms s a f
-budget_act admit n β arms s a f = let x = budget_admit (same β s) s a in omega arith
-budget_act leave n β arms s a f = let x = budget_leave (same β s) s a in omega arith
+budget_act m n β arms s a f = grind arith
 
 pub budget_act_critical : (m : Move) (n : ℕ) (β : Bool) (arms : ℕ → Stance) (s : Bool) (a : Stance) → Fit β s a → T (same β s) → T (has (not s) a) → ((k : ℕ) → T (not (choosing (arms k)))) → T (allowed m a) →
     budget (same (turn m β a) s) s (act m n β arms a) + 1 ≤ budget (same β s) s a
-budget_act_critical begin n β arms s a f q h c k = absurd (let z : ⊥ = grind arith in z)
-budget_act_critical step n β arms s a f q h c k = budget_critical n β arms s a f q h c k
-budget_act_critical admit n β arms s a f q h c k = budget_admit_critical (same β s) s a q h k
-budget_act_critical leave n β arms s a f q h c k = budget_leave_critical (same β s) s a q h k
+budget_act_critical m n β arms s a f q h c k = grind (arith, c)
 
 -- the group turns only away from the waiting arm's side
 pub turn_away : (m : Move) (β s : Bool) (a : Stance) → Fit β s a → T (same (turn m β a) s) → T (same β s)
-turn_away begin β s a f h = h
-turn_away step β s a f h = go a f h
-  where
-    go : (a : Stance) → Fit β s a → T (same (turn_step β a) s) → T (same β s)
-    go (idle g) f h = h
-    go (d1 g) f h = h
-    go (d2 g) f h = h
-    go (d3 u g) f h = h
-    go (d4 u) f h = h
-    go (d5 u) f h = h
-    go (waits u j p) f h = h
-    go (inside u o) f h = h
-    go (x1 u) f h = same_trans β (not u) s (f h) h
-    go (x2 u) f h = h
-turn_away admit β s a f h = h
-turn_away leave β s a f h = h
+turn_away m β s a f h = grind arith
 
 pub budget_falls : (e e' s : Bool) (a : Stance) → (T e' → T e) → budget e' s a ≤ budget e s a
-budget_falls true true s a f = omega arith
-budget_falls true false s a f = budget_turn s a
-budget_falls false true s a f = absurd (f tt)
-budget_falls false false s a f = omega arith
+budget_falls e e' s a f = grind arith
 
 -- the waiting arm's rank, as the arm at its index moves
-free_low : (p : Place) → free_rank p ≤ 5
-free_low p = grind arith
-
-pub rank_low : (e : Bool) (n : ℕ) (s : Bool) (a a' : Stance) (j : ℕ) (p : Place) → rank false n s a j p ≤ rank e n s a' j p
-rank_low true n s a a' j p = let x = free_low p in omega arith
-rank_low false n s a a' j p = omega arith
-
-place_W : (o f : Bool) (p : Place) → 1 ≤ place_rank o f p
-place_W o f p = grind arith
-
 pub keeps_look : (n : ℕ) (β : Bool) (b : Stance) (s u : Bool) (j : ℕ) (p p' : Place) → place_rank (has (not s) (step_waiting n β b u j p)) (flag (step_waiting n β b u j p)) p' ≤ place_rank (has (not s) (waits u j p)) true p'
 keeps_look n β b s u j p p' =
     outcome (λ r. place_rank (has (not s) r) (flag r) p' ≤ place_rank (has (not s) (waits u j p)) true p') n β b u (λ j p. omega arith) (omega arith) j p
 
-place_step : (n : ℕ) (β : Bool) (arms : ℕ → Stance) (s : Bool) (a : Stance) (p : Place) → Fit β s a → T (same β s) →
-    place_rank (has (not s) (step_arm n β arms a)) (flag (step_arm n β arms a)) p ≤ place_rank (has (not s) a) (flag a) p + cond (at P.D a) 2 0
-place_step n β arms s (idle g) p f q = grind arith
-place_step n β arms s (d1 g) p f q = grind arith
-place_step n β arms s (d2 g) p f q = grind arith
-place_step n β arms s (d3 u g) p f q = grind arith
-place_step n β arms s (d4 u) p f q = grind arith
-place_step n β arms s (d5 u) p f q = grind arith
-place_step n β arms s (waits u j p') p f q = let x = keeps_look n β (arms j) s u j p' p in omega arith
-place_step n β arms s (inside u o) p f q = grind arith
-place_step n β arms s (x1 u) p f q = grind arith
-place_step n β arms s (x2 u) p f q = grind arith
-
-place_begin : (s : Bool) (a : Stance) (p : Place) → place_rank (has (not s) (begin_arm a)) (flag (begin_arm a)) p ≤ place_rank (has (not s) a) (flag a) p
-place_begin s a p = grind arith
-
-place_admit : (s : Bool) (a : Stance) (p : Place) → place_rank (has (not s) (admit_arm a)) (flag (admit_arm a)) p ≤ place_rank (has (not s) a) (flag a) p
-place_admit s a p = grind arith
-
-place_leave : (s : Bool) (a : Stance) (p : Place) → place_rank (has (not s) (leave_arm a)) (flag (leave_arm a)) p ≤ place_rank (has (not s) a) (flag a) p
-place_leave s a p = grind arith
-
 pub place_act : (m : Move) (n : ℕ) (β : Bool) (arms : ℕ → Stance) (s : Bool) (a : Stance) (p : Place) → Fit β s a → T (same β s) →
     place_rank (has (not s) (act m n β arms a)) (flag (act m n β arms a)) p ≤ place_rank (has (not s) a) (flag a) p + cond (paid m a) 2 0
-place_act begin n β arms s a p f q = let x = place_begin s a p in omega arith
-place_act step n β arms s a p f q = place_step n β arms s a p f q
-place_act admit n β arms s a p f q = let x = place_admit s a p in omega arith
-place_act leave n β arms s a p f q = let x = place_leave s a p in omega arith
-
-abbrev pub early : Place → Bool
-early W1 = true
-early W2 = true
-early W3 = false
-early W4 = false
-early W5 = false
-early W6 = false
-
-pub free_late : (p : Place) → T (not (early p)) → 2 ≤ free_rank p
-free_late p h = grind arith
-
-leaf4 : (k : Bool) (a : Stance) (s : Bool) → T (flag a) → (T k → T (not (has (not s) a))) → place_rank (has (not s) a) (flag a) W5 + cond k 1 0 ≤ place_rank (has (not s) a) (flag a) W4
-leaf4 k a s f h = grind arith
-
-leaf5 : (k : Bool) (a : Stance) (s : Bool) → (T k → T (not (has (not s) a))) → place_rank (has (not s) a) (flag a) W6 + cond k 1 0 ≤ place_rank (has (not s) a) (flag a) W5
-leaf5 k a s h = grind arith
-
-leaf6 : (k : Bool) (a : Stance) (s : Bool) → T (not (same (mygroup a) s)) → (T k → T (not (has (not s) a))) → place_rank (has (not s) a) (flag a) W4 + cond k 1 0 ≤ place_rank (has (not s) a) (flag a) W6
-leaf6 k a s f h = grind arith
-
-leaf3 : (o f : Bool) → place_rank o f W4 ≤ 3
-leaf3 o f = grind arith
-
-one : (k : Bool) → cond k 1 0 ≤ 1
-one k = grind arith
-
-less : (k : Bool) (x y : ℕ) → x + 1 ≤ y → x + cond k 1 0 ≤ y
-less k x y h = let z = one k in omega arith
+place_act m n β arms s a p f q = grind arith
 
 -- the waiting arm's own step: never up, and down if k, where nobody is choosing and the arm is free to go
 module _ (n : ℕ) (s : Bool) (arms : ℕ → Stance) (j : ℕ) (lo : 1 ≤ j) (hi : j ≤ n) where
-  next_rank : (e : Bool) (p : Place) → T (not (early p)) → rank_of e n s arms (next n s j) + 1 ≤ rank e n s (arms j) j p
-  next_rank true p l =
-      let x = place_W (has (not s) (arms j)) (flag (arms j)) p in
-      by (λ r. rank_of true n s arms r + 1 ≤ rank true n s (arms j) j p) (ltb j n) (waits s (j + 1) W1) (inside s false)
-      (λ d. let r = ltb→lt j n d in omega arith)
-      (λ d. omega arith)
-  next_rank false p l =
-      let x = free_late p l in
-      by (λ r. rank_of false n s arms r + 1 ≤ rank false n s (arms j) j p) (ltb j n) (waits s (j + 1) W1) (inside s false) (λ q. omega arith) (λ d. omega arith)
-
-  rank1 : (e : Bool) → rank_of e n s arms (cond e (waits s j W2) (inside s false)) + 1 ≤ rank e n s (arms j) j W1
-  rank1 true = omega arith
-  rank1 false = omega arith
-
-  rank2 : (e k : Bool) → (T k → T (not (choosing (arms j)))) → rank_of e n s arms (cond (choosing (arms j)) (waits s j W2) (waits s j W3)) + cond k 1 0 ≤ rank e n s (arms j) j W2
-  rank2 true k h = by (λ r. rank_of true n s arms r + cond k 1 0 ≤ rank true n s (arms j) j W2) (choosing (arms j)) (waits s j W2) (waits s j W3)
-      (λ q. go k h q) (λ d. let z = one k in omega arith)
-    where
-      go : (k : Bool) → (T k → T (not (choosing (arms j)))) → T (choosing (arms j)) → rank true n s (arms j) j W2 + cond k 1 0 ≤ rank true n s (arms j) j W2
-      go true h q = absurd (clash (choosing (arms j)) q (h tt))
-      go false h q = omega arith
-  rank2 false k h = by (λ r. rank_of false n s arms r + cond k 1 0 ≤ rank false n s (arms j) j W2) (choosing (arms j)) (waits s j W2) (waits s j W3)
-      (λ q. go k h q) (λ d. let z = one k in omega arith)
-    where
-      go : (k : Bool) → (T k → T (not (choosing (arms j)))) → T (choosing (arms j)) → rank false n s (arms j) j W2 + cond k 1 0 ≤ rank false n s (arms j) j W2
-      go true h q = absurd (clash (choosing (arms j)) q (h tt))
-      go false h q = omega arith
-
-  rank3 : (e : Bool) → rank_of e n s arms (cond (same (mygroup (arms j)) s) (next n s j) (waits s j W4)) + 1 ≤ rank e n s (arms j) j W3
-  rank3 true = by (λ r. rank_of true n s arms r + 1 ≤ rank true n s (arms j) j W3) (same (mygroup (arms j)) s) (next n s j) (waits s j W4)
-      (λ q. next_rank true W3 tt) (λ d. let z = leaf3 (has (not s) (arms j)) (flag (arms j)) in omega arith)
-  rank3 false = by (λ r. rank_of false n s arms r + 1 ≤ rank false n s (arms j) j W3) (same (mygroup (arms j)) s) (next n s j) (waits s j W4)
-      (λ q. next_rank false W3 tt) (λ d. omega arith)
-
-  rank4 : (e k : Bool) → (T k → T e → T (not (has (not s) (arms j)))) → rank_of e n s arms (cond (flag (arms j)) (waits s j W5) (next n s j)) + cond k 1 0 ≤ rank e n s (arms j) j W4
-  rank4 true k h = by (λ r. rank_of true n s arms r + cond k 1 0 ≤ rank true n s (arms j) j W4) (flag (arms j)) (waits s j W5) (next n s j)
-      (λ q. let z = leaf4 k (arms j) s q (λ x. h x tt) in omega arith) (λ d. less k _ _ (next_rank true W4 tt))
-  rank4 false k h = by (λ r. rank_of false n s arms r + cond k 1 0 ≤ rank false n s (arms j) j W4) (flag (arms j)) (waits s j W5) (next n s j)
-      (λ q. let z = one k in omega arith) (λ d. less k _ _ (next_rank false W4 tt))
-
-  rank5 : (e k : Bool) → (T k → T e → T (not (has (not s) (arms j)))) → rank_of e n s arms (cond e (waits s j W6) (next n s j)) + cond k 1 0 ≤ rank e n s (arms j) j W5
-  rank5 true k h = let z = leaf5 k (arms j) s (λ x. h x tt) in omega arith
-  rank5 false k h = less k _ _ (next_rank false W5 tt)
-
-  rank6 : (e k : Bool) → (T k → T e → T (not (has (not s) (arms j)))) → rank_of e n s arms (cond (same (mygroup (arms j)) s) (next n s j) (waits s j W4)) + cond k 1 0 ≤ rank e n s (arms j) j W6
-  rank6 true k h = by (λ r. rank_of true n s arms r + cond k 1 0 ≤ rank true n s (arms j) j W6) (same (mygroup (arms j)) s) (next n s j) (waits s j W4)
-      (λ q. less k _ _ (next_rank true W6 tt)) (λ d. let z = leaf6 k (arms j) s d (λ x. h x tt) in omega arith)
-  rank6 false k h = by (λ r. rank_of false n s arms r + cond k 1 0 ≤ rank false n s (arms j) j W6) (same (mygroup (arms j)) s) (next n s j) (waits s j W4)
-      (λ q. less k _ _ (next_rank false W6 tt)) (λ d. let z = one k in omega arith)
-
   pub wait_rank : (β k : Bool) (p : Place) → (T k → T (not (choosing (arms j)))) → (T k → T (same β s) → T (not (has (not s) (arms j)))) →
       rank_of (same β s) n s arms (step_waiting n β (arms j) s j p) + cond k 1 0 ≤ rank (same β s) n s (arms j) j p
-  wait_rank β k W1 c h = less k _ _ (rank1 (same β s))
-  wait_rank β k W2 c h = rank2 (same β s) k c
-  wait_rank β k W3 c h = less k _ _ (rank3 (same β s))
-  wait_rank β k W4 c h = rank4 (same β s) k h
-  wait_rank β k W5 c h = rank5 (same β s) k h
-  wait_rank β k W6 c h = rank6 (same β s) k h
+  wait_rank β k W1 c h = grind (arith, nat_tests)
+  wait_rank β k p c h = grind (arith, nat_tests)
 
 -- the potential
 abbrev pub mask : Bool → Bool → (ℕ → Stance) → ℕ → ℕ → ℕ
@@ -362,15 +124,3 @@ mask e s arms w k = cond (eqb k w) 0 (budget e s (arms k))
 
 abbrev pub potential : Bool → Machine → ℕ → ℕ
 potential s g w = rank_of (same g.group s) g.n s g.arms (g.arms w) + total (mask (same g.group s) s g.arms w) g.n
-
-pub mask_on : (b : Bool) (x y : ℕ) → T b → cond b 0 x ≤ y
-mask_on true x y h = omega arith
-mask_on false x y h = absurd h
-
-pub mask_off : (b : Bool) (x y c : ℕ) → T (not b) → x + c ≤ y → cond b 0 x + c ≤ cond b 0 y
-mask_off true x y c h l = absurd h
-mask_off false x y c h l = l
-
-pub mask_le : (b : Bool) (x y : ℕ) → x ≤ y → cond b 0 x ≤ cond b 0 y
-mask_le true x y l = omega arith
-mask_le false x y l = l

@@ -4,7 +4,7 @@ use Rattle.std.proofs.lemmas.Bool.{cases_eq}
 use Rattle.door.specs.declared.position.Phase.TheVariants as P
 use Rattle.door.specs.declared.position.Place.{Place}
 use Rattle.door.proofs.Bools.{same_refl, test}
-use Rattle.door.proofs.machine.Machine.{Stance, idle, d1, d2, d3, d4, d5, waits, inside, x1, x2, at, has, choosing, step_waiting, outcome, step_arm, Move, begin, step, admit, leave, is_step, allowed, changed_same, changed_other, Machine, moved}
+use Rattle.door.proofs.machine.Machine.{Stance, waits, inside, at, has, step_waiting, outcome, step_arm, Move, step, is_step, allowed, changed_same, changed_other, Machine, moved}
 use Rattle.door.proofs.machine.Invariant.{Free, Own, Inv, wait_own}
 
 abbrev pub Waiting : Bool → Stance → Type 0
@@ -15,23 +15,12 @@ wait_out n β b s = outcome (λ r. Waiting s r ⊎ (r ≡ inside s false)) n β 
 
 -- it may only step
 pub only_steps : (m : Move) (s : Bool) (j : ℕ) (p : Place) → T (allowed m (waits s j p)) → m ≡ step
-only_steps begin s j p h = absurd h
-only_steps step s j p h = refl
-only_steps admit s j p h = absurd h
-only_steps leave s j p h = absurd h
+only_steps m s j p h = grind arith
 
 -- what its phase says
 pub phase_waits : (a : Stance) → T (at P.W a) → (s : Bool) × Waiting s a
-phase_waits (idle g) h = absurd h
-phase_waits (d1 g) h = absurd h
-phase_waits (d2 g) h = absurd h
-phase_waits (d3 s g) h = absurd h
-phase_waits (d4 s) h = absurd h
-phase_waits (d5 s) h = absurd h
 phase_waits (waits s j p) h = (s, (j, p, refl))
-phase_waits (inside s o) h = absurd h
-phase_waits (x1 s) h = absurd h
-phase_waits (x2 s) h = absurd h
+phase_waits a h = absurd h
 
 pub not_both : (a : Stance) (s : Bool) → T (has s a) → T (has (not s) a) → ⊥
 not_both a s h k = grind arith
@@ -42,24 +31,16 @@ D_awake a h = grind arith
 pub has_awake : (a : Stance) (t : Bool) → T (has t a) → T (not (at P.I a))
 has_awake a t h = grind arith
 
-pub choosing_D : (a : Stance) → T (choosing a) → T (at P.D a)
-choosing_D a h = grind arith
-
 -- an arm in its doorway may only step
 pub doorway_steps : (m : Move) (a : Stance) → T (at P.D a) → T (allowed m a) → m ≡ step
-doorway_steps begin a h k = absurd (let z : ⊥ = grind arith in z)
-doorway_steps step a h k = refl
-doorway_steps admit a h k = absurd (let z : ⊥ = grind arith in z)
-doorway_steps leave a h k = absurd (let z : ⊥ = grind arith in z)
+doorway_steps m a h k = grind arith
 
 -- a search through the arms
 pub find : (f : ℕ → Bool) (n : ℕ) → ((k : ℕ) × (1 ≤ k) × (k ≤ n) × T (f k)) ⊎ ((k : ℕ) → 1 ≤ k → k ≤ n → T (not (f k)))
 find f zero = inr (λ k lo hi. absurd (omega arith))
 find f (suc n) = ⊎_elim
     (λ x. inl (suc n, omega arith, omega arith, x))
-    (λ x. ⊎_elim (λ y. inl (y.0, y.1, (let z = y.2 in omega arith), y.3))
-    (λ y. inr (λ k lo hi. ⊎_elim (λ q. subst (λ z. T (not (f z))) (sym q) x) (λ q. let q' : k ≢ suc n = q in y k lo (omega arith)) (cases_eq k (suc n))))
-    (find f n))
+    (λ x. ⊎_elim (λ y. inl (y.0, y.1, (let z = y.2 in omega arith), y.3)) (λ y. inr (λ k lo hi. let z = y k in let c = cases_eq k (suc n) in grind arith)) (find f n))
     (test (f (suc n)))
 
 -- a move by which w goes inside

@@ -1,7 +1,6 @@
 -- The bit that an arm read, found in the history, is its side.
-use Rattle.std.proofs.Common.{◌≡◌, ℕ, ◌≤◌, Bool, false, cond, not, ◌&&◌, T, eqb, ◌⊎◌, List, [], ◌∷◌, Some, sym, refl, ap, ◌∙◌, subst, inl, inr, ⊎_elim, arith, eqb→eq}
-use lib.Dec.{eqb_refl}
-use Rattle.std.proofs.lemmas.Bool.{cases_eq}
+use Rattle.std.proofs.Common.{◌≡◌, ℕ, ◌≤◌, Bool, false, cond, not, ◌&&◌, T, eqb, ◌⊎◌, List, [], ◌∷◌, Some, sym, ap, ◌∙◌, subst, arith, eqb→eq}
+use Rattle.std.proofs.lemmas.Bool.Decides.{nat_tests}
 use Rattle.door.specs.Positions.{group, phase_of, access_of, side_of}
 use Rattle.door.specs.Tallies.{same_phase}
 use Rattle.door.specs.States.{State, arm_at}
@@ -9,8 +8,8 @@ use Rattle.door.specs.Calls.{access_at, after, run}
 use Rattle.door.specs.History.{is_in, steps, moves, of_group, reads_group, latest_bit}
 use Rattle.door.specs.declared.call.Call.{Call}
 use Rattle.door.specs.declared.position.Phase.TheVariants as P
-use Rattle.door.proofs.Bools.{same, same_refl, same_path, clash, and_T, T_and, by}
-use Rattle.door.proofs.machine.Machine.{Stance, idle, d1, d2, d3, d4, d5, waits, inside, x1, x2, position, at, side, has, outcome, step_arm, Move, begin, step, admit, leave, is_step, act, allowed, without_access, begin_arm, admit_arm, leave_arm, changed_same, changed_other, Machine, moved}
+use Rattle.door.proofs.Bools.{same, same_refl, same_path, and_T, by}
+use Rattle.door.proofs.machine.Machine.{Stance, d2, position, at, side, has, step_arm, Move, step, is_step, act, allowed, changed_same, Machine, moved}
 use Rattle.door.proofs.machine.Invariant.{inv_moved}
 use Rattle.door.proofs.rounds.Waiting.{doorway_steps, phase_waits}
 use Rattle.door.proofs.machine.Mirror.{bit, as_bit, register}
@@ -18,38 +17,11 @@ use Rattle.door.proofs.machine.Reached.{Came, stays, goes, came, phase_shown, So
 
 -- the one doorway place that reads the group
 at_d2 : (i sd : ℕ) (a : Stance) → T (at P.D a && of_group (access_of i sd (position a))) → (x : Bool) × (a ≡ d2 x)
-at_d2 i sd (idle g) h = absurd h
-at_d2 i sd (d1 g) h = absurd h
-at_d2 i sd (d2 g) h = (g, refl)
-at_d2 i sd (d3 s g) h = absurd h
-at_d2 i sd (d4 s) h = absurd h
-at_d2 i sd (d5 s) h = absurd h
-at_d2 i sd (waits s j p) h = absurd h
-at_d2 i sd (inside s o) h = absurd h
-at_d2 i sd (x1 s) h = absurd h
-at_d2 i sd (x2 s) h = absurd h
+at_d2 i sd a h = grind arith
 
 -- a side after a move was there, or is read now
-has_step : (n : ℕ) (β : Bool) (arms : ℕ → Stance) (a : Stance) (t : Bool) → T (has t (step_arm n β arms a)) → T (has t a) ⊎ ((x : Bool) × (a ≡ d2 x))
-has_step n β arms (idle g) t h = absurd h
-has_step n β arms (d1 g) t h = absurd h
-has_step n β arms (d2 g) t h = inr (g, refl)
-has_step n β arms (d3 s g) t h = inl h
-has_step n β arms (d4 s) t h = inl h
-has_step n β arms (d5 s) t h = inl h
-has_step n β arms (waits s j p) t h = inl (outcome (λ r. T (has t r) → T (same t s)) n β (arms j) s (λ j p x. x) (λ x. x) j p h)
-has_step n β arms (inside s o) t h = inl h
-has_step n β arms (x1 s) t h = inl h
-has_step n β arms (x2 s) t h = absurd h
-
-has_without : (t : Bool) (a : Stance) → (T (has t (begin_arm a)) → T (has t a)) × (T (has t (admit_arm a)) → T (has t a)) × (T (has t (leave_arm a)) → T (has t a))
-has_without t = without_access (λ a a'. T (has t a') → T (has t a)) (λ a h. h) (λ g h. h) (λ s o h. h) (λ s h. h)
-
 has_act : (m : Move) (n : ℕ) (β : Bool) (arms : ℕ → Stance) (a : Stance) (t : Bool) → T (has t (act m n β arms a)) → T (has t a) ⊎ (T (is_step m) × ((x : Bool) × (a ≡ d2 x)))
-has_act begin n β arms a t h = inl ((has_without t a).0 h)
-has_act step n β arms a t h = ⊎_elim (λ x. inl x) (λ x. inr (tt, x)) (has_step n β arms a t h)
-has_act admit n β arms a t h = inl ((has_without t a).1 h)
-has_act leave n β arms a t h = inl ((has_without t a).2 h)
+has_act m n β arms a t h = grind arith
 
 module _ (w n : ℕ) (wlo : 1 ≤ w) (whi : w ≤ n) where
   abbrev Reads : Machine → ℕ → Type 0
@@ -71,7 +43,7 @@ module _ (w n : ℕ) (wlo : 1 ≤ w) (whi : w ≤ n) where
         (subst (λ y. T (same_phase (phase_of y) P.D && of_group (access_of w (side_of (arm_at s w).side) y))) position_is t)
 
     there : (x : Bool) → g.arms w ≡ d2 x → T (is_in P.D s w && of_group (access_at s w))
-    there x e = subst (λ y. T (same_phase (phase_of y) P.D && of_group (access_of w (side_of (arm_at s w).side) y))) (sym (position_is ∙ ap position e)) tt
+    there x e = let q = position_is in grind arith
 
     went : Came g (after s c) (λ b. moves b s c) (λ b. steps b s c) → Read (after s c) (cond (reads_group w s c) (register s group) v)
     went (stays mir' _ st) =
@@ -97,13 +69,12 @@ module _ (w n : ℕ) (wlo : 1 ≤ w) (whi : w ≤ n) where
             was.sound.mirror.group_is ∙ ap bit (sym (same_path u g.group h₂))
 
         on_read : T (not (reads_group w s c)) → Reads (moved g m i) v
-        on_read d u h = ⊎_elim
-            (λ q. ⊎_elim (was.reads u)
-            (λ x. absurd (clash (reads_group w s c)
-            (T_and (steps w s c) _ (subst T (sym (st w)) (T_and (is_step m) (eqb i w) x.0 (subst (λ j. T (eqb i j)) q (eqb_refl i)))) (there x.1.0 x.1.1)) d))
-            (has_act m g.n g.group g.arms (g.arms w) u (subst (λ y. T (has u y)) (ap (λ z. (moved g m z).arms w) q ∙ changed_same g.arms w _) h)))
-            (λ ne. was.reads u (subst (λ y. T (has u y)) (changed_other g.arms i _ w (λ z. ne (sym z))) h))
-            (cases_eq i w)
+        on_read d u h =
+            let a = has_act m g.n g.group g.arms (g.arms w) u in
+            let r = was.reads u in
+            let x = st w in
+            let y : (z : Bool) → g.arms w ≡ d2 z → T (is_in P.D s w && of_group (access_at s w)) = there in
+            grind (arith, nat_tests)
 
   pub read_run : (cs : List Call) (s : State) (v : ℕ) → Read s v → Read (run s cs) (latest_bit w s cs v)
   read_run [] s v h = h

@@ -1,71 +1,45 @@
 -- An arm that is not free to go has no right of way: others end their doorways, then it steps 8 n times and waits on.
-use Rattle.std.proofs.Common.{◌≡◌, ℕ, zero, suc, ◌+◌, ◌*◌, ◌≤◌, Bool, true, false, cond, not, ◌&&◌, T, eqb, ◌≢◌, List, [], ◌∷◌, None, sym, refl, ap, ◌∙◌, subst, ⊎_elim, arith, eqb→eq}
+use Rattle.std.proofs.Common.{◌≡◌, ℕ, zero, suc, ◌+◌, ◌*◌, ◌≤◌, Bool, cond, not, ◌&&◌, T, eqb, ◌≢◌, List, [], ◌∷◌, sym, refl, ap, subst, ⊎_elim, arith, eqb→eq}
+use Rattle.std.proofs.lemmas.Bool.Decides.{nat_tests}
 use lib.Dec.{eqb_refl}
 use Rattle.std.proofs.lemmas.Bool.{cases_eq}
-use Rattle.door.specs.Positions.{phase_of}
-use Rattle.door.specs.Tallies.{same_phase}
-use Rattle.door.specs.States.{State, is_arm, phase_at}
-use Rattle.door.specs.Calls.{refusal_of, step_refusal, after}
-use Rattle.door.specs.History.{no_refusal, accepted, is_in, steps, moves, goes_inside, GoesInside, steps_in, NoOtherInDoorway, RightOfWay}
+use Rattle.door.specs.States.{State}
+use Rattle.door.specs.Calls.{after}
+use Rattle.door.specs.History.{accepted, steps, moves, goes_inside, GoesInside, steps_in, NoOtherInDoorway, RightOfWay}
 use Rattle.door.specs.declared.call.Call.{Call}
 use Rattle.door.specs.declared.call.Call.TheVariants.{Step}
-use Rattle.door.specs.declared.position.Phase.{Phase}
 use Rattle.door.specs.declared.position.Phase.TheVariants as P
-use Rattle.door.proofs.Bools.{same, same_sym, opposite, clash, none_of, and_T, T_and, by, cond_on, is_false, ne_test, test_ne}
-use Rattle.door.proofs.machine.Machine.{Stance, idle, d1, d2, d3, d4, d5, waits, inside, x1, x2, at, has, step_arm, turn_step, Move, step, is_step, allowed, may_step, changed_same, changed_other, Machine, moved}
+use Rattle.door.proofs.Bools.{same, same_sym, opposite, clash, and_T, T_and, by, ne_test, test_ne}
+use Rattle.door.proofs.machine.Machine.{Stance, d1, d2, d3, d4, d5, at, has, step_arm, turn_step, Move, step, is_step, allowed, may_step, changed_other, Machine, moved}
 use Rattle.door.proofs.machine.Invariant.{Inv, inv_moved}
 use Rattle.door.proofs.rounds.Waiting.{Waiting, only_steps, doorway_steps, not_both, D_awake, find, has_own, other_waits, own_out, own_free}
-use Rattle.door.proofs.rounds.Potential.{total, total_drop, mask_le, mask_off}
+use Rattle.door.proofs.rounds.Potential.{total, total_drop}
 use Rattle.door.proofs.machine.Mirror.{Mirror}
 use Rattle.door.proofs.Accepted.{arm_in}
 use Rattle.door.proofs.machine.Reached.{Came, stays, goes, came, arm_is, phase_shown, Sound}
-use Rattle.door.proofs.way.HasWay.{none_more}
 
 -- how many steps of its doorway an arm has before it
 abbrev ahead : Stance → ℕ
-ahead (idle g) = 0
 ahead (d1 g) = 5
 ahead (d2 g) = 4
 ahead (d3 s g) = 3
 ahead (d4 s) = 2
 ahead (d5 s) = 1
-ahead (waits s j p) = 0
-ahead (inside s o) = 0
-ahead (x1 s) = 0
-ahead (x2 s) = 0
+ahead a = 0
 
 -- a doorway step takes one of them, keeps the side and leaves the group
 abbrev Passes : Bool → Stance → Stance → Bool → Type 0
 Passes β a a' β' = (ahead a' + 1 ≤ ahead a) × ((t : Bool) → T (has t a) → T (has t a')) × (β' ≡ β)
 
 doorway_passes : (n : ℕ) (β : Bool) (arms : ℕ → Stance) (a : Stance) → T (at P.D a) → Passes β a (step_arm n β arms a) (turn_step β a)
-doorway_passes n β arms (idle g) h = absurd h
-doorway_passes n β arms (d1 g) h = (omega arith, (λ t k. absurd k), refl)
-doorway_passes n β arms (d2 g) h = (omega arith, (λ t k. absurd k), refl)
-doorway_passes n β arms (d3 s g) h = (omega arith, (λ t k. k), refl)
-doorway_passes n β arms (d4 s) h = (omega arith, (λ t k. k), refl)
-doorway_passes n β arms (d5 s) h = (omega arith, (λ t k. k), refl)
-doorway_passes n β arms (waits s j p) h = absurd h
-doorway_passes n β arms (inside s o) h = absurd h
-doorway_passes n β arms (x1 s) h = absurd h
-doorway_passes n β arms (x2 s) h = absurd h
+doorway_passes n β arms a h = grind arith
 
 doorway_may : (a : Stance) → T (at P.D a) → T (may_step a)
 doorway_may a h = grind arith
 
 -- a step that the machine allows is accepted
-step_free : (p : Phase) → T (not (same_phase p P.I) && not (same_phase p P.F)) → step_refusal p ≡ None
-step_free P.I h = absurd h
-step_free P.D h = refl
-step_free P.W h = refl
-step_free P.F h = absurd h
-step_free P.X h = refl
-
 step_accepted : (s : State) (g : Machine) → Mirror s g → (i : ℕ) → 1 ≤ i → i ≤ s.n → T (may_step (g.arms i)) → T (accepted s (Step i))
-step_accepted s g mir i lo hi k =
-    let e : step_refusal (phase_at s i) ≡ None = step_free (phase_at s i) (subst (λ y. T (not (same_phase (phase_of y) P.I) && not (same_phase (phase_of y) P.F))) (sym (mir.shows i lo hi).stands) k) in
-    let r : refusal_of s (Step i) ≡ None = cond_on (is_arm s i) (step_refusal (phase_at s i)) _ (arm_is s i lo hi) ∙ e in
-    subst (λ x. T (no_refusal x)) (sym r) tt
+step_accepted s g mir i lo hi k = let x = (mir.shows i lo hi).stands in let y = arm_is s i lo hi in grind arith
 
 step_mirrored : (s : State) (g : Machine) → Mirror s g → Inv g → (i : ℕ) → 1 ≤ i → i ≤ s.n → T (may_step (g.arms i)) → ((m : Move) → T (allowed m (g.arms i)) → m ≡ step) → Mirror (after s (Step i)) (moved g step i)
 step_mirrored s g mir inv i lo hi k only = go (came s g mir inv (Step i))
@@ -79,10 +53,6 @@ step_mirrored s g mir inv i lo hi k only = go (came s g mir inv (Step i))
         let q : l ≡ i = eqb→eq l i (and_T (is_step m) (eqb l i) (subst T (st i) it)).1 in
         let r : m ≡ step = only m (subst (λ y. T (allowed m (g.arms y))) q k') in
         subst (λ y. Mirror (after s (Step i)) (moved g step y)) q (subst (λ y. Mirror (after s (Step i)) (moved g y l)) r mir')
-
-one_step : (b : Bool) → T b → ◌≡◌ {A = ℕ} (cond b 1 0) 1
-one_step true h = refl
-one_step false h = absurd h
 
 module _ (u : ℕ) (sd : Bool) (n : ℕ) (ulo : 1 ≤ u) (uhi : u ≤ n) (k : ℕ) where
   -- u waits, the group is its side, and arm k has the other side
@@ -102,9 +72,7 @@ module _ (u : ℕ) (sd : Bool) (n : ℕ) (ulo : 1 ≤ u) (uhi : u ≤ n) (k : �
     pub stays_out : GoesInside u s calls → ⊥
 
   not_inside : (s : State) (g : Machine) → Mirror s g → g.n ≡ n → Waiting sd (g.arms u) → (c : Call) (s₀ : State) → s ≡ after s₀ c → T (goes_inside u s₀ c) → ⊥
-  not_inside s g mir e v c s₀ q t =
-      let x = and_T (is_in P.W s₀ u) (is_in P.F (after s₀ c) u) (and_T (steps u s₀ c) (is_in P.W s₀ u && is_in P.F (after s₀ c) u) t).1 in
-      subst (λ y. T (at P.F y)) v.2 (subst T (phase_shown s g mir P.F u ulo (omega arith)) (subst (λ y. T (is_in P.F y u)) (sym q) x.1))
+  not_inside s g mir e v c s₀ q t = let x = phase_shown s g mir P.F u ulo (omega arith) in let y = v.2 in grind arith
 
   own_steps : (m : ℕ) (s : State) (g : Machine) → Barred s g → ((l : ℕ) → l ≢ u → T (at P.D (g.arms l)) → ⊥) → Vain m s
   own_steps zero s g b calm = record { calls = []; count = refl; alone = tt; stays_out = λ h. h }
@@ -130,7 +98,8 @@ module _ (u : ℕ) (sd : Bool) (n : ℕ) (ulo : 1 ≤ u) (uhi : u ≤ n) (k : �
         foe = subst (λ y. T (has (not sd) y)) (sym (changed_other g.arms u _ k ne)) b.foe;
       } in
       let rest = own_steps m (after s (Step u)) g' barred (λ l lne x. calm l lne (subst (λ y. T (at P.D y)) (changed_other g.arms u _ l lne) x)) in
-      let one = one_step (steps u s (Step u)) (T_and (accepted s (Step u)) (eqb u u) (step_accepted s g mir u ulo hi may) (eqb_refl u)) in
+      let accepts = step_accepted s g mir u ulo hi may in
+      let one : ◌≡◌ {A = ℕ} (cond (steps u s (Step u)) 1 0) 1 = grind (arith, nat_tests) in
       record {
         calls = Step u ∷ rest.calls;
         count = let x = rest.count in omega arith;
@@ -174,19 +143,16 @@ module _ (u : ℕ) (sd : Bool) (n : ℕ) (ulo : 1 ≤ u) (uhi : u ≤ n) (k : �
         foe = by (λ z. T (has (not sd) z)) (eqb k l) a' (g.arms k) (λ t. passes.1 (not sd) (subst (λ z. T (has (not sd) (g.arms z))) (eqb→eq k l t) b.foe)) (λ t. b.foe);
       } in
       let drop : all_ahead g' + 1 ≤ all_ahead g = total_drop (λ z. cond (eqb z u) 0 (ahead (g'.arms z))) (λ z. cond (eqb z u) 0 (ahead (g.arms z))) g.n 1 l
-      (λ z. by (λ c. cond (eqb z u) 0 (ahead c) ≤ cond (eqb z u) 0 (ahead (g.arms z))) (eqb z l) a' (g.arms z)
-      (λ t. mask_le (eqb z u) _ _ (subst (λ c. ahead a' ≤ ahead (g.arms c)) (sym (eqb→eq z l t)) (let f = passes.0 in omega arith)))
-      (λ t. omega arith))
+      (λ z. let f = passes.0 in grind (arith, nat_tests))
       x.1 x.2
-      (mask_off (eqb l u) _ _ 1 y.0 (subst (λ c. ahead c + 1 ≤ ahead (g.arms l)) (sym (changed_same g.arms l a')) passes.0)) in
+      (let f = passes.0 in grind (arith, nat_tests)) in
       let rest = end_doorways B m (after s (Step l)) g' barred (omega arith) in
       let not_own : T (steps u s (Step l)) → ⊥ = λ t. lne (eqb→eq l u (and_T (accepted s (Step l)) (eqb l u) t).1) in
-      let zero_more = none_more (steps u s (Step l)) (is_false (steps u s (Step l)) (none_of (steps u s (Step l)) not_own)) in
       record {
         calls = Step l ∷ rest.calls;
-        count = let z = rest.count in omega arith;
+        count = let z = rest.count in grind arith;
         alone = ((λ t. absurd (not_own t)), rest.alone);
-        stays_out = λ z. ⊎_elim (not_inside (after s (Step l)) g' mir' e wait' (Step l) s refl) rest.stays_out z;
+        stays_out = λ z. ⊎_elim {B = GoesInside u (after s (Step l)) rest.calls} (not_inside (after s (Step l)) g' mir' e wait' (Step l) s refl) rest.stays_out z;
       })
       (λ none_in. own_steps m s g b (λ l lne d.
       let r = b.keeps.awake l (D_awake (g.arms l) d) in

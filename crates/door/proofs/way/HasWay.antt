@@ -1,6 +1,6 @@
 -- An arm that is free to go has right of way.
-use Rattle.std.proofs.Common.{◌≡◌, ℕ, ◌≤◌, Bool, false, cond, not, ◌&&◌, T, eqb, ◌⊎◌, List, [], ◌∷◌, sym, ap, ◌∙◌, subst, inl, inr, ⊎_elim, arith, eqb→eq}
-use lib.Dec.{eqb_refl}
+use Rattle.std.proofs.Common.{◌≡◌, ℕ, ◌≤◌, Bool, cond, not, ◌&&◌, T, eqb, ◌⊎◌, List, [], ◌∷◌, sym, ap, ◌∙◌, subst, inl, inr, ⊎_elim, arith, eqb→eq}
+use Rattle.std.proofs.lemmas.Bool.Decides.{nat_tests}
 use Rattle.std.proofs.lemmas.Bool.{cases_eq}
 use Rattle.door.specs.States.{State}
 use Rattle.door.specs.Calls.{after}
@@ -14,12 +14,6 @@ use Rattle.door.proofs.rounds.Waiting.{Waiting, only_steps, index_in, move_out}
 use Rattle.door.proofs.way.Rank.{needs, free_after, needs_other, needs_mine, needs_some, needs_bound}
 use Rattle.door.proofs.machine.Mirror.{Mirror}
 use Rattle.door.proofs.machine.Reached.{Came, stays, goes, came, arm_is, phase_shown, entry_goes, Sound}
-
-one_more : (b : Bool) → cond b 1 0 ≤ 1
-one_more b = grind arith
-
-pub none_more : (b : Bool) → b ≡ false → ◌≡◌ {A = ℕ} (cond b 1 0) 0
-none_more b e = ap (λ x. cond x 1 0) e
 
 module _ (w : ℕ) (sd : Bool) (n : ℕ) (wlo : 1 ≤ w) (whi : w ≤ n) where
   goes_on : (cs : List Call) (s : State) (g : Machine) → Mirror s g → Inv g → g.n ≡ n → Waiting sd (g.arms w) → Free g.group g.arms sd
@@ -44,12 +38,12 @@ module _ (w : ℕ) (sd : Bool) (n : ℕ) (wlo : 1 ≤ w) (whi : w ≤ n) where
           (λ q.
           let r : m ≡ step = only_steps m sd j p (subst (λ y. T (allowed m y)) wait (subst (λ y. T (allowed m (g.arms y))) q k)) in
           let b = index_in g inv w sd j p wait in
-          let o = one_more (steps w s c) in
-          let t : T (steps w s c) = subst T (sym st) (subst (λ y. T (is_step y && eqb i w)) (sym r) (subst (λ y. T (eqb i y)) q (eqb_refl i))) in
+          let t : T (steps w s c) = grind (arith, nat_tests) in
           let y = needs_mine g inv w sd j p wait free b.0 b.1 (calm t) in
+          let o : cond (steps w s c) 1 0 ≤ 1 = grind arith in
           subst (λ z. needs (moved g z i) sd w ≤ steps_in w (after s c) cs) (sym r) (subst (λ z. needs (moved g step z) sd w ≤ steps_in w (after s c) cs) (sym q) (omega arith)))
           (λ ne.
-          let z = none_more (steps w s c) (st ∙ is_false (is_step m && eqb i w) (none_of _ (λ t. ne (eqb→eq i w (and_T (is_step m) (eqb i w) t).1)))) in
+          let z : ◌≡◌ {A = ℕ} (cond (steps w s c) 1 0) 0 = ap (λ x. cond x 1 0) (st ∙ is_false (is_step m && eqb i w) (none_of _ (λ t. ne (eqb→eq i w (and_T (is_step m) (eqb i w) t).1)))) in
           let y = needs_other g inv w sd j p wait free m i ne in
           omega arith)
           (cases_eq i w)
@@ -57,8 +51,7 @@ module _ (w : ℕ) (sd : Bool) (n : ℕ) (wlo : 1 ≤ w) (whi : w ≤ n) where
       go : Came g (after s c) (λ b. moves b s c) (λ b. steps b s c)
           → ((g' : Machine) → Mirror (after s c) g' → Inv g' → g'.n ≡ n → Waiting sd (g'.arms w) → Free g'.group g'.arms sd → needs g' sd w ≤ steps_in w (after s c) cs → Goal) → Goal
       go (stays mir' _ st) again =
-          let z = none_more (steps w s c) (st w) in
-          again g mir' inv e (j, p, wait) free (omega arith)
+          again g mir' inv e (j, p, wait) free (let z = st w in grind arith)
       go (goes m i lo hi k mir' _ st) again = ⊎_elim
           (λ x. inl (entry_goes w sd s g wlo (omega arith) mir (j, p, wait) c m i mir' st x.0))
           (λ x. again (moved g m i) mir' (inv_moved g inv m i lo hi) e x (free_after g inv w sd j p wait free m i) (fewer m i k (st w)))

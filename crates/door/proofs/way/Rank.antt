@@ -1,13 +1,14 @@
 -- How many own steps a waiting arm still needs while it is free to go and no other arm is in its doorway.
-use Rattle.std.proofs.Common.{◌≡◌, ℕ, ◌+◌, ◌-◌, ◌*◌, ◌≤◌, Bool, true, false, cond, not, T, eqb, ltb, ◌≢◌, sym, ap, ◌∙◌, subst, ⊎_elim, arith, eqb→eq, ltb→lt}
+use Rattle.std.proofs.Common.{◌≡◌, ℕ, ◌+◌, ◌-◌, ◌*◌, ◌≤◌, Bool, true, false, cond, not, T, eqb, ◌≢◌, sym, ap, ◌∙◌, subst, ⊎_elim, arith, eqb→eq}
+use Rattle.std.proofs.lemmas.Bool.Decides.{nat_tests}
 use Rattle.door.specs.declared.position.Phase.TheVariants as P
 use Rattle.door.specs.declared.position.Place.{Place}
 use Rattle.door.specs.declared.position.Place.TheVariants.{W1, W2, W3, W4, W5, W6}
-use Rattle.door.proofs.Bools.{same, same_refl, same_sym, opposite, differ, test, clash, none_of, by, ne_test}
-use Rattle.door.proofs.machine.Machine.{Stance, idle, d1, d2, d3, d4, d5, waits, inside, x1, x2, at, has, choosing, mygroup, flag, next, step_waiting, outcome, step_arm, turn_step, Move, begin, step, admit, leave, act, changed, changed_same, changed_other, Machine, moved}
-use Rattle.door.proofs.machine.Invariant.{Free, Inv, far, Home, seen_act, changed_seen}
-use Rattle.door.proofs.rounds.Waiting.{choosing_D, has_own}
-use Rattle.door.proofs.rounds.Potential.{Fit, turn_away, free_rank, early, free_late}
+use Rattle.door.proofs.Bools.{same, same_refl, same_sym, opposite, differ, test, none_of, by}
+use Rattle.door.proofs.machine.Machine.{Stance, waits, at, has, mygroup, step_waiting, step_arm, turn_step, Move, step, act, changed, changed_same, changed_other, Machine, moved}
+use Rattle.door.proofs.machine.Invariant.{Free, Inv, Home, seen_act, changed_seen}
+use Rattle.door.proofs.rounds.Waiting.{has_own}
+use Rattle.door.proofs.rounds.Potential.{Fit, turn_away, free_rank}
 use Rattle.door.proofs.rounds.Falls.{fit_of}
 
 -- own steps still needed, at an index of another arm (its mygroup is the side, or not) and at the own index
@@ -22,10 +23,7 @@ abroad_rank q W6 = cond q 1 4
 abbrev home_rank : Place → ℕ
 home_rank W1 = 3
 home_rank W2 = 2
-home_rank W3 = 1
-home_rank W4 = 1
-home_rank W5 = 1
-home_rank W6 = 1
+home_rank p = 1
 
 abbrev here : Bool → Bool → Place → ℕ
 here t q p = cond t (home_rank p) (abroad_rank q p)
@@ -35,164 +33,29 @@ needed true n s w a j p = 6 * (n - j) + 3 + here (eqb j w) (same (mygroup a) s) 
 needed false n s w a j p = free_rank p
 
 abbrev needed_of : Bool → ℕ → Bool → ℕ → (ℕ → Stance) → Stance → ℕ
-needed_of e n s w arms (idle g) = 0
-needed_of e n s w arms (d1 g) = 0
-needed_of e n s w arms (d2 g) = 0
-needed_of e n s w arms (d3 u g) = 0
-needed_of e n s w arms (d4 u) = 0
-needed_of e n s w arms (d5 u) = 0
 needed_of e n s w arms (waits u j p) = needed e n s w (arms j) j p
-needed_of e n s w arms (inside u o) = 0
-needed_of e n s w arms (x1 u) = 0
-needed_of e n s w arms (x2 u) = 0
+needed_of e n s w arms a = 0
 
-here_pos : (t q : Bool) (p : Place) → 1 ≤ here t q p
-here_pos t q p = grind arith
-
-here_high : (t q : Bool) (p : Place) → here t q p ≤ 6
-here_high t q p = grind arith
-
-here_home : (q : Bool) (p : Place) → here true q p ≤ 3
-here_home q p = grind arith
-
-here_free : (t q : Bool) (p : Place) → free_rank p ≤ 3 + here t q p
-here_free t q p = grind arith
-
-here_group : (t q q' : Bool) (p : Place) → (T q → T q') → here t q' p ≤ here t q p
-here_group t q q' p f = grind arith
-
-free_pos : (p : Place) → (1 ≤ free_rank p) × (free_rank p ≤ 5)
-free_pos p = grind arith
-
--- the table at a step
-here_1 : (t q : Bool) → here t q W2 + 1 ≤ here t q W1
-here_1 t q = grind arith
-
-here_2 : (t q : Bool) → here t q W3 + 1 ≤ here t q W2
-here_2 t q = grind arith
-
-here_3 : (t q : Bool) → (T t → T q) → T (not q) → here t q W4 + 1 ≤ here t q W3
-here_3 t q f h = grind arith
-
-here_4 : (t q : Bool) → T (not t) → T q → here t q W5 + 1 ≤ here t q W4
-here_4 t q f h = grind arith
-
-here_5 : (t q : Bool) → T (not t) → here t q W6 + 1 ≤ here t q W5
-here_5 t q f = grind arith
-
-here_6 : (t q : Bool) → T (not t) → T (not q) → here t q W4 + 1 ≤ here t q W6
-here_6 t q f h = grind arith
-
-flag_group : (a : Stance) (s : Bool) → T (flag a) → T (not (at P.D a)) → T (not (has (not s) a)) → T (same (mygroup a) s)
-flag_group a s f d h = grind arith
-
+-- an own step takes one of them
 module _ (n : ℕ) (s : Bool) (w : ℕ) (arms : ℕ → Stance) (j : ℕ) (lo : 1 ≤ j) (hi : j ≤ n) (calm : T (not (at P.D (arms j)))) (own : T (eqb j w) → T (same (mygroup (arms j)) s)) where
-  step_next : (e : Bool) (p : Place) → T (not (early p)) → needed_of e n s w arms (next n s j) + 1 ≤ needed e n s w (arms j) j p
-  step_next true p l =
-      let x = here_pos (eqb j w) (same (mygroup (arms j)) s) p in
-      let y = here_high (eqb (j + 1) w) (same (mygroup (arms (j + 1))) s) W1 in
-      by (λ r. needed_of true n s w arms r + 1 ≤ needed true n s w (arms j) j p) (ltb j n) (waits s (j + 1) W1) (inside s false)
-      (λ d. let r = ltb→lt j n d in omega arith)
-      (λ d. omega arith)
-  step_next false p l =
-      let x = free_late p l in
-      by (λ r. needed_of false n s w arms r + 1 ≤ needed false n s w (arms j) j p) (ltb j n) (waits s (j + 1) W1) (inside s false) (λ q. omega arith) (λ d. omega arith)
-
-  needed_1 : (e : Bool) → needed_of e n s w arms (cond e (waits s j W2) (inside s false)) + 1 ≤ needed e n s w (arms j) j W1
-  needed_1 true = let x = here_1 (eqb j w) (same (mygroup (arms j)) s) in omega arith
-  needed_1 false = omega arith
-
-  needed_2 : (e : Bool) → needed_of e n s w arms (cond (choosing (arms j)) (waits s j W2) (waits s j W3)) + 1 ≤ needed e n s w (arms j) j W2
-  needed_2 true = by (λ r. needed_of true n s w arms r + 1 ≤ needed true n s w (arms j) j W2) (choosing (arms j)) (waits s j W2) (waits s j W3)
-      (λ q. absurd (clash (at P.D (arms j)) (choosing_D (arms j) q) calm)) (λ d. let x = here_2 (eqb j w) (same (mygroup (arms j)) s) in omega arith)
-  needed_2 false = by (λ r. needed_of false n s w arms r + 1 ≤ needed false n s w (arms j) j W2) (choosing (arms j)) (waits s j W2) (waits s j W3)
-      (λ q. absurd (clash (at P.D (arms j)) (choosing_D (arms j) q) calm)) (λ d. omega arith)
-
-  needed_3 : (e : Bool) → needed_of e n s w arms (cond (same (mygroup (arms j)) s) (next n s j) (waits s j W4)) + 1 ≤ needed e n s w (arms j) j W3
-  needed_3 true = by (λ r. needed_of true n s w arms r + 1 ≤ needed true n s w (arms j) j W3) (same (mygroup (arms j)) s) (next n s j) (waits s j W4)
-      (λ q. step_next true W3 tt) (λ d. let x = here_3 (eqb j w) (same (mygroup (arms j)) s) own d in omega arith)
-  needed_3 false = by (λ r. needed_of false n s w arms r + 1 ≤ needed false n s w (arms j) j W3) (same (mygroup (arms j)) s) (next n s j) (waits s j W4)
-      (λ q. step_next false W3 tt) (λ d. omega arith)
-
-  needed_4 : (e : Bool) → T (not (eqb j w)) → (T e → T (not (has (not s) (arms j)))) → needed_of e n s w arms (cond (flag (arms j)) (waits s j W5) (next n s j)) + 1 ≤ needed e n s w (arms j) j W4
-  needed_4 true away h = by (λ r. needed_of true n s w arms r + 1 ≤ needed true n s w (arms j) j W4) (flag (arms j)) (waits s j W5) (next n s j)
-      (λ q. let x = here_4 (eqb j w) (same (mygroup (arms j)) s) away (flag_group (arms j) s q calm (h tt)) in omega arith) (λ d. step_next true W4 tt)
-  needed_4 false away h = by (λ r. needed_of false n s w arms r + 1 ≤ needed false n s w (arms j) j W4) (flag (arms j)) (waits s j W5) (next n s j)
-      (λ q. omega arith) (λ d. step_next false W4 tt)
-
-  needed_5 : (e : Bool) → T (not (eqb j w)) → needed_of e n s w arms (cond e (waits s j W6) (next n s j)) + 1 ≤ needed e n s w (arms j) j W5
-  needed_5 true away = let x = here_5 (eqb j w) (same (mygroup (arms j)) s) away in omega arith
-  needed_5 false away = step_next false W5 tt
-
-  needed_6 : (e : Bool) → T (not (eqb j w)) → needed_of e n s w arms (cond (same (mygroup (arms j)) s) (next n s j) (waits s j W4)) + 1 ≤ needed e n s w (arms j) j W6
-  needed_6 true away = by (λ r. needed_of true n s w arms r + 1 ≤ needed true n s w (arms j) j W6) (same (mygroup (arms j)) s) (next n s j) (waits s j W4)
-      (λ q. step_next true W6 tt) (λ d. let x = here_6 (eqb j w) (same (mygroup (arms j)) s) away d in omega arith)
-  needed_6 false away = by (λ r. needed_of false n s w arms r + 1 ≤ needed false n s w (arms j) j W6) (same (mygroup (arms j)) s) (next n s j) (waits s j W4)
-      (λ q. step_next false W6 tt) (λ d. omega arith)
-
-  abroad : (p : Place) → Home w (waits s j p) → T (far p) → T (not (eqb j w))
-  abroad p h f = ⊎_elim (λ q. absurd (clash (far p) f (h (eqb→eq j w q)))) (λ d. d) (test (eqb j w))
-
   needed_own : (β : Bool) (p : Place) → Home w (waits s j p) → (T (same β s) → T (not (has (not s) (arms j)))) → needed_of (same β s) n s w arms (step_waiting n β (arms j) s j p) + 1 ≤ needed (same β s) n s w (arms j) j p
-  needed_own β W1 home h = needed_1 (same β s)
-  needed_own β W2 home h = needed_2 (same β s)
-  needed_own β W3 home h = needed_3 (same β s)
-  needed_own β W4 home h = needed_4 (same β s) (abroad W4 home tt) h
-  needed_own β W5 home h = needed_5 (same β s) (abroad W5 home tt)
-  needed_own β W6 home h = needed_6 (same β s) (abroad W6 home tt)
+  needed_own β p home h = grind (arith, nat_tests)
 
 needed_bound : (e : Bool) (n : ℕ) (s : Bool) (w : ℕ) (a : Stance) (j : ℕ) (p : Place) → 1 ≤ w → w ≤ n → 1 ≤ j → j ≤ n → needed e n s w a j p ≤ 8 * n
-needed_bound true n s w a j p wlo whi lo hi = go (eqb j w) (λ q. eqb→eq j w q) (λ d. ne_test j w d)
-  where
-    go : (t : Bool) → (T t → j ≡ w) → (T (not t) → j ≡ w → ⊥) → 6 * (n - j) + 3 + here t (same (mygroup a) s) p ≤ 8 * n
-    go true f h = let x = here_home (same (mygroup a) s) p in omega arith
-    go false f h = let x = here_high false (same (mygroup a) s) p in let ne : j ≢ w = h tt in omega arith
-needed_bound false n s w a j p wlo whi lo hi = let x = free_pos p in omega arith
+needed_bound e n s w a j p wlo whi lo hi = grind (arith, nat_tests)
 
 -- another arm's move
 needed_others : (e e' : Bool) (n : ℕ) (s : Bool) (w : ℕ) (a a' : Stance) (j : ℕ) (p : Place) → (T e' → T e) → (T e → T (same (mygroup a) s) → T (same (mygroup a') s)) → needed e' n s w a' j p ≤ needed e n s w a j p
-needed_others true true n s w a a' j p f h = let x = here_group (eqb j w) (same (mygroup a) s) (same (mygroup a') s) p (h tt) in omega arith
-needed_others true false n s w a a' j p f h = let x = here_free (eqb j w) (same (mygroup a) s) p in omega arith
-needed_others false true n s w a a' j p f h = absurd (f tt)
-needed_others false false n s w a a' j p f h = omega arith
-
-mygroup_step : (n : ℕ) (β : Bool) (arms : ℕ → Stance) (s : Bool) (a : Stance) → T (not (has (not s) a)) → T (same (mygroup a) s) → T (same (mygroup (step_arm n β arms a)) s)
-mygroup_step n β arms s (idle g) h q = q
-mygroup_step n β arms s (d1 g) h q = q
-mygroup_step n β arms s (d2 g) h q = q
-mygroup_step n β arms s (d3 u g) h q = grind arith
-mygroup_step n β arms s (d4 u) h q = q
-mygroup_step n β arms s (d5 u) h q = q
-mygroup_step n β arms s (waits u j p) h q = outcome (λ r. T (same (mygroup r) s)) n β (arms j) u (λ j p. q) q j p
-mygroup_step n β arms s (inside u o) h q = q
-mygroup_step n β arms s (x1 u) h q = q
-mygroup_step n β arms s (x2 u) h q = q
+needed_others e e' n s w a a' j p f h = grind arith
 
 mygroup_act : (m : Move) (n : ℕ) (β : Bool) (arms : ℕ → Stance) (s : Bool) (a : Stance) → T (not (has (not s) a)) → T (same (mygroup a) s) → T (same (mygroup (act m n β arms a)) s)
-mygroup_act begin n β arms s a h q = grind arith
-mygroup_act step n β arms s a h q = mygroup_step n β arms s a h q
-mygroup_act admit n β arms s a h q = grind arith
-mygroup_act leave n β arms s a h q = grind arith
+mygroup_act m n β arms s a h q = grind arith
 
 free_none : (β : Bool) (arms : ℕ → Stance) (s : Bool) → Free β arms s → T (same β s) → (k : ℕ) → T (not (has (not s) (arms k)))
 free_none β arms s free q k = none_of (has (not s) (arms k)) (λ h. opposite β s q (same_sym β (not s) (free k h)))
 
-here_keeps : (t : Bool) (s : Bool) (r a : Stance) (p : Place) → here t (same (mygroup (cond t r a)) s) p ≤ here t (same (mygroup a) s) p
-here_keeps true s r a p = omega arith
-here_keeps false s r a p = omega arith
-
 needed_keeps : (e : Bool) (n : ℕ) (s : Bool) (w : ℕ) (arms : ℕ → Stance) (r x : Stance) → needed_of e n s w (changed arms w r) x ≤ needed_of e n s w arms x
-needed_keeps e n s w arms r (idle y) = omega arith
-needed_keeps e n s w arms r (d1 y) = omega arith
-needed_keeps e n s w arms r (d2 y) = omega arith
-needed_keeps e n s w arms r (d3 u y) = omega arith
-needed_keeps e n s w arms r (d4 u) = omega arith
-needed_keeps e n s w arms r (d5 u) = omega arith
-needed_keeps true n s w arms r (waits u j p) = let x = here_keeps (eqb j w) s r (arms j) p in omega arith
-needed_keeps false n s w arms r (waits u j p) = omega arith
-needed_keeps e n s w arms r (inside u y) = omega arith
-needed_keeps e n s w arms r (x1 u) = omega arith
-needed_keeps e n s w arms r (x2 u) = omega arith
+needed_keeps e n s w arms r x = grind arith
 
 -- for an arm of the machine
 abbrev pub needs : Machine → Bool → ℕ → ℕ
@@ -236,8 +99,7 @@ module _ (g : Machine) (inv : Inv g) (w : ℕ) (s : Bool) (j : ℕ) (p : Place) 
   needs_some = subst (λ y. 1 ≤ needed_of (same g.group s) g.n s w g.arms y) (sym e) (some (same g.group s))
     where
       some : (b : Bool) → 1 ≤ needed b g.n s w (g.arms j) j p
-      some true = omega arith
-      some false = let x = free_pos p in omega arith
+      some b = grind arith
 
   pub needs_bound : 1 ≤ w → w ≤ g.n → 1 ≤ j → j ≤ g.n → needs g s w ≤ 8 * g.n
   needs_bound wlo whi lo hi =
