@@ -1,4 +1,4 @@
-ghost use Rattle.std.specs.Prelude.{◌≡◌, ◌≤◌, length, Ok, IfOk};
+ghost use Rattle.std.specs.Prelude.{◌≡◌, ◌≤◌, if◌then◌else◌, length, is_some, Ok, IfOk};
 ghost use Rattle.std.specs.Result.{result_err};
 ghost use Rattle.door.specs.Calls.{refusal_of};
 ghost use Rattle.door.specs.declared.call.Call.TheVariants.{Admit};
@@ -46,6 +46,13 @@ fn obey<B: Bank>(gate: &mut Gate<B>, order: Order) -> Option<Refusal>
     }
 }
 
+// An order that was refused counts.
+fn count(refusal: Option<Refusal>) -> usize
+    ensures { result ≡ (if is_some refusal then 1 else 0) }
+{
+    usize::from(refusal.is_some())
+}
+
 // Obeys the orders of a file that was checked, and answers how many the gate refused.
 fn obey_all<B: Bank>(gate: &mut Gate<B>, file: &[u8], heading: Heading) -> usize
     requires { Ok heading ≡ heading_of (says file.now) }
@@ -56,7 +63,7 @@ fn obey_all<B: Bank>(gate: &mut Gate<B>, file: &[u8], heading: Heading) -> usize
     let mut refused = 0;
     for i in 0..heading.orders {
         let placed = order_at(file, at, i + 1).unwrap();
-        refused += usize::from(obey(gate, placed.order).is_some());
+        refused += count(obey(gate, placed.order));
         at = placed.next;
     }
     refused
