@@ -1,9 +1,11 @@
 -- What a day comes to for each arm, and how its rounds are counted.
-use Rattle.std.specs.Prelude.{ℕ, ◌+◌, ◌-◌, ◌^◌, min, max, Bool, false, if◌then◌else◌, not, List, map, replicate, Ok, Err, Result, nat_lt, slice_index, slice_set}
+use Rattle.std.specs.Prelude.{ℕ, ◌+◌, ◌-◌, ◌^◌, min, max, Bool, false, if◌then◌else◌, not, List, map, replicate, is_some, Ok, Err, Result, nat_lt, slice_index, slice_set}
 use Rattle.std.specs.List.{list_any, range_with_len}
+use Rattle.door.specs.Calls.{refusal_of}
 use Rattle.door.specs.History.{is_in}
 use Rattle.door.specs.States.{State, is_arm}
 use Rattle.door.specs.Tallies.{same_phase}
+use Rattle.door.specs.declared.call.Call.TheVariants.{Admit as admit}
 use Rattle.door.specs.declared.position.Phase.{Phase}
 use Rattle.door.specs.declared.position.Phase.TheVariants as P
 use Rattle.door.specs.declared.refusal.Refusal.{Refusal}
@@ -67,6 +69,16 @@ with_move s k r =
 -- what concerns an arm that the day does not have changes nothing
 abbrev pub of_arm : ℕ → Record → Record → Record
 of_arm k new old = if nat_lt k plant_arms then new else old
+
+-- a reading of arm k + 1 was delivered, and the arm left
+abbrev pub with_leave : State → ℕ → Record → Record
+with_leave s k r =
+    let counted = of_arm k (with_delivery k r) r in
+    of_arm k (with_move s k counted) counted
+
+-- arm i, arm k + 1 of the record, was to carry its reading, from gate s on; t is the gate then
+abbrev pub carried : State → State → ℕ → ℕ → Record → Record
+carried s t i k r = if is_some (refusal_of s (admit i)) then r else with_leave t k r
 
 -- arm k + 1 went inside, and what most_passed answered of it
 abbrev pub with_answer : ℕ → Result ℕ Refusal → Record → Record

@@ -6,7 +6,7 @@ ghost use Rattle.std.specs.Prelude.{◌≡◌, ◌<◌};
 ghost use Rattle.door.specs.States.{made};
 ghost use Rattle.gate.specs.Whole.{whole};
 ghost use Rattle.plantday.specs.Day.{Called, FairDay};
-ghost use Rattle.plantday.specs.Records.{plant_arms, noted};
+ghost use Rattle.plantday.specs.Records.{plant_arms, carried, noted};
 
 mod dice;
 mod record;
@@ -46,7 +46,8 @@ fn pick(dice: &mut Dice) -> usize
 
 // Carries a reading of an arm inside into the table, and lets the arm go.
 fn deliver<B: Bank>(gate: &mut Gate<B>, arm: usize, k: usize, record: &mut Record)
-    ensures { Called (whole gate.old) (whole gate.new) }
+    ensures calls { Called (whole gate.old) (whole gate.new) }
+    ensures noted { «record».new ≡ carried (whole gate.old) (whole gate.new) arm k «record».old }
 {
     let Ok(pass) = gate.admit(arm) else {
         return;

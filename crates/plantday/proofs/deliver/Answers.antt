@@ -3,5 +3,5 @@ use Rattle.plantday.proofs.Called.{once, ◌then◌}
 use Rattle.plantday.proofs.deliver.Goals as goal
 
 -- admitted and left
-pub returns : goal.returns
-returns g c = once (Admit c.args.arm) c.admit.ensures.after then once (Leave c.confirm-known.result.0.gate c.confirm-known.result.0.arm) c.leave.ensures.after
+pub returns-clause-calls : goal.returns-clause-calls
+returns-clause-calls g c = once (Admit c.args.arm) c.admit.ensures.after then once (Leave c.confirm-known.result.0.gate c.confirm-known.result.0.arm) c.leave.ensures.after
