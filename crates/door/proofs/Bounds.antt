@@ -152,8 +152,8 @@ after_bounded s (way i) h = unless_both (refusal_of s (way i)) s s Bounded (λ _
 made_bit : (n : ℕ) (regs : List ℕ) → 1 ≤ n → get_or (made_regs n regs) group 0 ≤ 1
 made_bit n regs h = grind (arith, nat_tests)
 
-pub made_bounded : (high number wanted : ℕ) (regs : List ℕ) → Bounded (made high number wanted regs)
-made_bounded high number wanted regs =
+pub made_bounded : (memory high number wanted : ℕ) (regs : List ℕ) → Bounded (made memory high number wanted regs)
+made_bounded memory high number wanted regs =
     record {
       few = arms_few high (length regs) wanted;
       bit = made_bit (arms_for high (length regs) wanted) regs;

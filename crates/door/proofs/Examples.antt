@@ -13,7 +13,7 @@ steps_of i k = replicate k (step i)
 
 -- arm 1 goes inside past arm 2, leaves, and is idle again
 abbrev first : State
-first = made 1 0 2 (replicate 9 1)
+first = made 0 1 0 2 (replicate 9 1)
 
 abbrev one_past : List Call
 one_past = begin 1 ∷ [] ++ steps_of 1 5 ++ (begin 2 ∷ []) ++ steps_of 2 5 ++ steps_of 1 6 ++ (admit 1 ∷ leave 0 1 ∷ []) ++ steps_of 1 3
@@ -40,7 +40,7 @@ way_of_second = refl
 
 -- arm 2 goes inside twice past arm 1
 abbrev second : State
-second = made 255 7 3 (replicate 10 9)
+second = made 0 255 7 3 (replicate 10 9)
 
 abbrev two_past : List Call
 two_past = begin 2 ∷ begin 3 ∷ [] ++ steps_of 2 5 ++ steps_of 3 5 ++ steps_of 3 9 ++ (admit 3 ∷ leave 7 3 ∷ []) ++ steps_of 3 2 ++ (begin 1 ∷ []) ++ steps_of 1 5 ++ steps_of 2 1

@@ -30,12 +30,12 @@ use Rattle.door.proofs.rounds.Rounds.{all_go_inside}
 bit_once : (x y : Bool) → bit x ≡ bit y → T (same x y)
 bit_once x y e = grind arith
 
-module _ (high number wanted : ℕ) (regs : List ℕ) (past : List Call) where
+module _ (memory high number wanted : ℕ) (regs : List ℕ) (past : List Call) where
   abbrev n : ℕ
   n = arms_for high (length regs) wanted
 
   abbrev start : State
-  start = made high number wanted regs
+  start = made memory high number wanted regs
 
   abbrev now : State
   now = run start past
@@ -51,7 +51,7 @@ module _ (high number wanted : ℕ) (regs : List ℕ) (past : List Call) where
 
   module _ (some : 1 ≤ n) where
     abbrev sound : Sound now n
-    sound = run_sound start n (made_sound high number wanted regs some) past
+    sound = run_sound start n (made_sound memory high number wanted regs some) past
 
     waiting : (w : ℕ) → 1 ≤ w → w ≤ n → T (is_in P.W now w) → (sd : Bool) × Waiting sd (sound.machine.arms w)
     waiting w lo hi t = phase_waits (sound.machine.arms w) (subst T (phase_shown now sound.machine sound.mirror P.W w lo (let z = sound.arms_are in omega arith)) t)
@@ -59,7 +59,7 @@ module _ (high number wanted : ℕ) (regs : List ℕ) (past : List Call) where
     -- the bit that a waiting arm read is its side
     bit_is : (w : ℕ) → 1 ≤ w → w ≤ n → T (is_in P.W now w) → (sd : Bool) → Waiting sd (sound.machine.arms w) → bit_read w start past ≡ bit sd
     bit_is w lo hi t sd v =
-        let read = read_run w n lo hi past start 0 (record { sound = made_sound high number wanted regs some; reads = λ t h. absurd h }) in
+        let read = read_run w n lo hi past start 0 (record { sound = made_sound memory high number wanted regs some; reads = λ t h. absurd h }) in
         let z = sound.mirror.size in
         let e = sound.arms_are in
         let x = read_side w n lo hi now (bit_read w start past) read t in
@@ -105,7 +105,7 @@ module _ (high number wanted : ℕ) (regs : List ℕ) (past : List Call) where
 
     -- the count of b past w, from the making on
     counting : (w b : ℕ) (wlo : 1 ≤ w) (whi : w ≤ n) (blo : 1 ≤ b) (bhi : b ≤ n) → Past w b n wlo whi blo bhi start 0 false
-    counting w b wlo whi blo bhi = record { sound = made_sound high number wanted regs some; rules = λ k. tt; counted = λ s e. absurd (let z : ◌≡◌ {A = ℕ} 0 1 = cc in omega arith) }
+    counting w b wlo whi blo bhi = record { sound = made_sound memory high number wanted regs some; rules = λ k. tt; counted = λ s e. absurd (let z : ◌≡◌ {A = ℕ} 0 1 = cc in omega arith) }
 
     bound : (w b : ℕ) → 1 ≤ w → w ≤ n → 1 ≤ b → b ≤ n → T (is_in P.W now w) → (entries_since w b start past ≤ 2) × (T (idle_then w b start past) → entries_since w b start past ≤ 1)
     bound w b wlo whi blo bhi t = past_bound w b n wlo whi blo bhi now _ _ (past_run w b n wlo whi blo bhi past start 0 false (counting w b wlo whi blo bhi)) t
@@ -140,7 +140,7 @@ module _ (high number wanted : ℕ) (regs : List ℕ) (past : List Call) where
   }
 
 pub law : (s : State) → Law s
-law s high number wanted regs past e = subst (Fair (made high number wanted regs) past) e (fair high number wanted regs past)
+law s memory high number wanted regs past e = subst (Fair (made memory high number wanted regs) past) e (fair memory high number wanted regs past)
 
 -- the answer of way
 yes_is : (b : Bool) → (◌≡◌ {A = Result Bool Refusal} (Ok b) (Ok true)) ↔ T b
@@ -153,7 +153,7 @@ decided w s (c ∷ cs) = let x = decided w (after s c) cs in let y = test (goes_
 
 pub tells : (s : State) (w : ℕ) → IsReached s → Tells s w (way_answer s w)
 tells s w reached wait =
-    let told : Origin s → (T (has_way s w) ↔ RightOfWay s w) = λ p. (law s p.high p.number p.wanted p.regs p.calls p.leads).told w wait in
+    let told : Origin s → (T (has_way s w) ↔ RightOfWay s w) = λ p. (law s p.memory p.high p.number p.wanted p.regs p.calls p.leads).told w wait in
     let here : refusal_of s (Way w) ≡ None = grind arith in
     let is : way_answer s w ≡ Ok (has_way s w) = ap (λ r. answered r (has_way s w)) here in
     let yes = yes_is (has_way s w) in (

@@ -26,18 +26,19 @@ pub record Fair (start : State) (past : List Call) (s : State) : Type 0 where
 
 -- a gate in this state is fair, however it was made and whatever was called
 abbrev pub Law : State → Type 0
-Law s = (high number wanted : ℕ) (regs : List ℕ) (past : List Call) →
-    let start = made high number wanted regs in
+Law s = (memory high number wanted : ℕ) (regs : List ℕ) (past : List Call) →
+    let start = made memory high number wanted regs in
     run start past ≡ s → Fair start past s
 
 -- a making, and calls since then, that lead to the state s
 pub record Origin (s : State) : Type 0 where
+  pub memory : ℕ
   pub high : ℕ
   pub number : ℕ
   pub wanted : ℕ
   pub regs : List ℕ
   pub calls : List Call
-  pub leads : run (made high number wanted regs) calls ≡ s
+  pub leads : run (made memory high number wanted regs) calls ≡ s
 
 -- there is such an origin
 abbrev pub IsReached : State → Type 0

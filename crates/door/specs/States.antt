@@ -7,9 +7,10 @@ use Rattle.door.specs.Making.{made_regs, arms_for}
 use Rattle.door.specs.declared.arm.Arm.{Arm}
 use Rattle.door.specs.declared.position.Phase.{Phase}
 
--- high: the highest value of a register; number: the gate's; n: how many arms;
--- regs: the values of the bank; arms: the records, arm i at i - 1
+-- memory: which borrowed memory the bank writes; high: the highest value of a register; number: the gate's;
+-- n: how many arms; regs: the values of the bank; arms: the records, arm i at i - 1
 pub record State : Type 0 where
+  pub memory : ℕ
   pub high : ℕ
   pub number : ℕ
   pub n : ℕ
@@ -17,9 +18,10 @@ pub record State : Type 0 where
   pub arms : List Arm
 
 -- a gate just made over a bank
-abbrev pub made : ℕ → ℕ → ℕ → List ℕ → State
-made high number wanted regs =
+abbrev pub made : ℕ → ℕ → ℕ → ℕ → List ℕ → State
+made memory high number wanted regs =
     record {
+      memory = memory;
       high = high;
       number = number;
       n = arms_for high (length regs) wanted;

@@ -1,7 +1,7 @@
 ghost use Rattle.std.specs.Prelude.{◌≡◌, slice_index};
 ghost use Rattle.door.specs.Positions.{value_read, regs_after};
 
-use bank::interface::Bank;
+use bank::Bank;
 
 // The one register access of a step.
 #[derive(Clone, Copy, Debug, PartialEq, Eq)]
@@ -23,7 +23,8 @@ impl Access {
     // Makes the access, and answers the value read; 0 where none is read.
     pub fn make<B: Bank>(self, bank: &mut B) -> u64
         ensures value { result ≡ value_read (B.values bank.old) self }
-        ensures after { B.values bank.new ≡ regs_after B.highest (B.values bank.old) self }
+        ensures after { B.values bank.new ≡ regs_after B.HIGHEST (B.values bank.old) self }
+        ensures lent { B.memory bank.new ≡ B.memory bank.old }
     {
         match self {
             Access::Nothing => 0,

@@ -132,7 +132,7 @@ start_inv n = record { home = λ k. tt; awake = λ k h. absurd h; range = λ k t
 some_high : (high len wanted : ℕ) → 1 ≤ arms_for high len wanted → 1 ≤ high
 some_high high len wanted h = grind (arith, nat_tests)
 
-module _ (high number wanted : ℕ) (regs : List ℕ) (some : 1 ≤ arms_for high (length regs) wanted) where
+module _ (memory high number wanted : ℕ) (regs : List ℕ) (some : 1 ≤ arms_for high (length regs) wanted) where
   abbrev made_n : ℕ
   made_n = arms_for high (length regs) wanted
 
@@ -145,7 +145,7 @@ module _ (high number wanted : ℕ) (regs : List ℕ) (some : 1 ≤ arms_for hig
       ∙ (get_or_append_left (replicate (room made_n) 0) (drop (room made_n) regs) 0 q (let x = length-replicate {A = ℕ} (room made_n) 0 in omega arith)
       ∙ get_or-replicate (room made_n) q 0 0 l)
 
-  pub made_mirror : Mirror (made high number wanted regs) (start made_n)
+  pub made_mirror : Mirror (made memory high number wanted regs) (start made_n)
   made_mirror =
       let few = arms_few high (length regs) wanted in
       let fit = arms_fit high (length regs) wanted some in
@@ -156,7 +156,7 @@ module _ (high number wanted : ℕ) (regs : List ℕ) (some : 1 ≤ arms_for hig
         table = few;
         group_is = cleared_at group (omega arith);
         shows = λ i lo hi.
-            let e : arm_at (made high number wanted regs) i ≡ fresh = get_or-replicate arm_limit (i - 1) fresh no_arm (omega arith) in
+            let e : arm_at (made memory high number wanted regs) i ≡ fresh = get_or-replicate arm_limit (i - 1) fresh no_arm (omega arith) in
             record {
               stands = ap (λ a. a.position) e;
               sided = ap (λ a. a.side) e;
@@ -167,5 +167,5 @@ module _ (high number wanted : ℕ) (regs : List ℕ) (some : 1 ≤ arms_for hig
             };
       }
 
-  abbrev pub made_sound : Sound (made high number wanted regs) made_n
+  abbrev pub made_sound : Sound (made memory high number wanted regs) made_n
   made_sound = record { machine = start made_n; mirror = made_mirror; keeps = start_inv made_n; arms_are = refl }
