@@ -7,7 +7,7 @@ use Rattle.bank.specs.Registers.{written}
 use Rattle.door.specs.Limits.{arm_limit, visit_limit, tally_limit}
 use Rattle.door.specs.Positions.{group, access_of, regs_after, value_read, side_after, side_of, phase_of}
 use Rattle.door.specs.Arms.{fresh, no_arm}
-use Rattle.door.specs.Tallies.{with_row, counted, each, same_phase, past_doorway, row_started, row_cleared, tallied}
+use Rattle.door.specs.Tallies.{with_row, counted, each, past_doorway, tallied}
 use Rattle.door.specs.Making.{arms_for, made_regs}
 use Rattle.door.specs.States.{State, made, arm_at, is_arm, phase_at, with_arm}
 use Rattle.door.specs.declared.call.Call.{Call}
@@ -19,11 +19,11 @@ use Rattle.door.specs.declared.arm.Arm.{Arm}
 use Rattle.door.specs.declared.position.Doorway.TheVariants.{D1}
 use Rattle.door.specs.declared.position.Exit.TheVariants.{X1}
 use Rattle.door.specs.declared.position.Phase.{Phase}
-use Rattle.door.specs.declared.position.Phase.TheVariants as P
 use Rattle.door.specs.declared.position.Position.{Position}
 use Rattle.door.specs.declared.position.Position.TheVariants.{Doorway, Leaving}
 use Rattle.door.proofs.Accepted.{unless_both, for_arm_none, begin_none, known_arm}
 use Rattle.door.proofs.Rooms.{arms_few}
+use Rattle.door.proofs.Tables.{tallied_holds}
 
 -- what a gate's state never exceeds
 pub record BoundedArm (a : Arm) : Type 0 where
@@ -92,17 +92,11 @@ each_bounded f h j (a ∷ more) all zero = h j a (all zero)
 each_bounded f h j (a ∷ more) all (suc k) = each_bounded f h (suc j) more (λ m. all (suc m)) k
 
 tallied_bounded : (k : ℕ) (p q : Phase) (arms : List Arm) → ((j : ℕ) → BoundedArm (get_or arms j no_arm)) → (j : ℕ) → BoundedArm (get_or (tallied k p q arms) j no_arm)
-tallied_bounded k P.I q arms h j = h j
-tallied_bounded k P.D q arms h j =
-    cond_both (same_phase q P.W) (row_started k arms) arms (λ rs. BoundedArm (get_or rs j no_arm))
-    (λ _. kept_set BoundedArm arms k _ no_arm h (row_bounded _ _ (get_or arms k no_arm) (zeros arm_limit) (h k)) j) (λ _. h j)
-tallied_bounded k P.W q arms h j =
-    cond_both (same_phase q P.F) (each (counted k) 0 arms) arms (λ rs. BoundedArm (get_or rs j no_arm))
-    (λ _. each_bounded (counted k) (counted_bounded k) 0 arms h j) (λ _. h j)
-tallied_bounded k P.F q arms h j = h j
-tallied_bounded k P.X q arms h j =
-    cond_both (same_phase q P.I) (row_cleared k arms) arms (λ rs. BoundedArm (get_or rs j no_arm))
-    (λ _. kept_set BoundedArm arms k _ no_arm h (row_bounded _ _ (get_or arms k no_arm) (zeros arm_limit) (h k)) j) (λ _. h j)
+tallied_bounded k p q arms h j =
+    tallied_holds (λ rs. BoundedArm (get_or rs j no_arm)) k p q arms (h j)
+    (kept_set BoundedArm arms k _ no_arm h (row_bounded _ _ (get_or arms k no_arm) (zeros arm_limit) (h k)) j)
+    (each_bounded (counted k) (counted_bounded k) 0 arms h j)
+    (kept_set BoundedArm arms k _ no_arm h (row_bounded _ _ (get_or arms k no_arm) (zeros arm_limit) (h k)) j)
 
 -- calls
 with_arm_bounded : (i : ℕ) (a : Arm) (s : State) → Bounded s → BoundedArm a → Bounded (with_arm i a s)

@@ -16,6 +16,8 @@ pub mod way
 pub mod rounds
 -- what leads to a gate
 pub mod Origins
+-- the access of an accepted step can be made
+pub mod Makeable
 -- the law, put together
 pub mod Fairness
 -- runs that are computed

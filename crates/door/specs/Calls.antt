@@ -22,31 +22,20 @@ use Rattle.door.specs.declared.refusal.Refusal.TheVariants as R
 -- why a call is refused; none where it is accepted
 abbrev pub begin_refusal : Phase → ℕ → Option Refusal
 begin_refusal P.I visits = if nat_lt visits visit_limit then None else Some R.Worn
-begin_refusal P.D visits = Some R.Busy
-begin_refusal P.W visits = Some R.Busy
-begin_refusal P.F visits = Some R.Busy
-begin_refusal P.X visits = Some R.Busy
+begin_refusal p visits = Some R.Busy
 
 abbrev pub step_refusal : Phase → Option Refusal
 step_refusal P.I = Some R.Idle
-step_refusal P.D = None
-step_refusal P.W = None
 step_refusal P.F = Some R.Inside
-step_refusal P.X = None
+step_refusal p = None
 
 abbrev pub admit_refusal : Phase → Bool → Option Refusal
-admit_refusal P.I out = Some R.Elsewhere
-admit_refusal P.D out = Some R.Elsewhere
-admit_refusal P.W out = Some R.Elsewhere
 admit_refusal P.F out = if out then Some R.Taken else None
-admit_refusal P.X out = Some R.Elsewhere
+admit_refusal p out = Some R.Elsewhere
 
 abbrev pub way_refusal : Phase → Option Refusal
-way_refusal P.I = Some R.Elsewhere
-way_refusal P.D = Some R.Elsewhere
 way_refusal P.W = None
-way_refusal P.F = Some R.Elsewhere
-way_refusal P.X = Some R.Elsewhere
+way_refusal p = Some R.Elsewhere
 
 -- a pass of this gate whose arm has its pass out
 abbrev pub knows : State → ℕ → ℕ → Bool
@@ -91,11 +80,8 @@ abbrev pub done : State → Call → State
 done s (begin i) = with_arm i (with_visit (At.Doorway D1) ((arm_at s i).visits + 1) (arm_at s i).out (arm_at s i)) s
 done s (step i) = stepped i s
 done s (admit i) = with_arm i (with_visit (arm_at s i).position (arm_at s i).visits true (arm_at s i)) s
-done s (confirm gate i) = s
 done s (leave gate i) = with_arm i (with_visit (At.Leaving X1) (arm_at s i).visits false (arm_at s i)) s
-done s (look i) = s
-done s (tally w b) = s
-done s (way i) = s
+done s c = s
 
 -- the new one where nothing was refused, else the old one
 abbrev pub unless : {X : Type 0} → Option Refusal → X → X → X

@@ -1,5 +1,5 @@
 -- The table of positions: the one access at each, and where the value just read leads.
-use Rattle.std.specs.Prelude.{ℕ, ◌+◌, ◌-◌, ◌*◌, Bool, false, if◌then◌else◌, List, Some, None, Option, ◌==◌, nat_lt, slice_index}
+use Rattle.std.specs.Prelude.{ℕ, codes, ◌+◌, ◌-◌, ◌*◌, Bool, false, if◌then◌else◌, List, Some, None, Option, ◌==◌, nat_lt, slice_index}
 use Rattle.bank.specs.Registers.{written}
 use Rattle.door.specs.declared.access.Access.{Access}
 use Rattle.door.specs.declared.access.Access.TheVariants.{Nothing, Read, Write}
@@ -20,12 +20,12 @@ phase_of (Waiting j p) = P.W
 phase_of Inside = P.F
 phase_of (Leaving x) = P.X
 
-abbrev pub letter_of : Phase → ℕ
-letter_of P.I = 73
-letter_of P.D = 68
-letter_of P.W = 87
-letter_of P.F = 70
-letter_of P.X = 88
+abbrev pub letter_of : Phase → List ℕ
+letter_of P.I = codes "I"
+letter_of P.D = codes "D"
+letter_of P.W = codes "W"
+letter_of P.F = codes "F"
+letter_of P.X = codes "X"
 
 -- the registers: the group, and three for each arm
 abbrev pub group : ℕ
@@ -51,28 +51,25 @@ read_by j W6 = mygroup_of j
 
 -- the one access of arm i with a side
 abbrev pub access_of : ℕ → ℕ → Position → Access
-access_of i side Idle = Nothing
 access_of i side (Doorway D1) = Write (choosing_of i) 1
 access_of i side (Doorway D2) = Read group
 access_of i side (Doorway D3) = Write (mygroup_of i) side
 access_of i side (Doorway D4) = Write (flag_of i) 1
 access_of i side (Doorway D5) = Write (choosing_of i) 0
 access_of i side (Waiting j p) = Read (read_by j p)
-access_of i side Inside = Nothing
 access_of i side (Leaving X1) = Write group (1 - side)
 access_of i side (Leaving X2) = Write (flag_of i) 0
+access_of i side p = Nothing
 
 -- what an access reads, 0 where it reads nothing or the bank has no such register
 abbrev pub value_read : List ℕ → Access → ℕ
-value_read regs Nothing = 0
 value_read regs (Read q) = slice_index regs q
-value_read regs (Write q v) = 0
+value_read regs x = 0
 
 -- the registers after an access
 abbrev pub regs_after : ℕ → List ℕ → Access → List ℕ
-regs_after high regs Nothing = regs
-regs_after high regs (Read q) = regs
 regs_after high regs (Write q v) = written high regs q v
+regs_after high regs x = regs
 
 -- next: W1 at j + 1, or inside after the last arm
 abbrev pub onward : ℕ → ℕ → Position
@@ -89,29 +86,21 @@ next_place n side v j W6 = if v == side then onward n j else Waiting j W4
 
 -- where an arm goes, having read v
 abbrev pub next_of : ℕ → ℕ → ℕ → Position → Position
-next_of n side v Idle = Idle
 next_of n side v (Doorway D1) = Doorway D2
 next_of n side v (Doorway D2) = Doorway D3
 next_of n side v (Doorway D3) = Doorway D4
 next_of n side v (Doorway D4) = Doorway D5
 next_of n side v (Doorway D5) = Waiting 1 W1
 next_of n side v (Waiting j p) = next_place n side v j p
-next_of n side v Inside = Inside
 next_of n side v (Leaving X1) = Leaving X2
 next_of n side v (Leaving X2) = Idle
+next_of n side v p = p
 
 -- the side after a step: the bit that D2 read, and none after X2
 abbrev pub side_after : ℕ → Position → Option ℕ → Option ℕ
-side_after v Idle s = s
-side_after v (Doorway D1) s = s
 side_after v (Doorway D2) s = Some v
-side_after v (Doorway D3) s = s
-side_after v (Doorway D4) s = s
-side_after v (Doorway D5) s = s
-side_after v (Waiting j p) s = s
-side_after v Inside s = s
-side_after v (Leaving X1) s = s
 side_after v (Leaving X2) s = None
+side_after v p s = s
 
 -- a side as a number, 0 where it is missing
 abbrev pub side_of : Option ℕ → ℕ

@@ -3,15 +3,17 @@ ghost use Rattle.door.specs.Positions.{value_read, regs_after};
 
 use bank::Bank;
 
-// The one register access of a step.
+/// The one register access of a step. Registers count from 0.
 #[derive(Clone, Copy, Debug, PartialEq, Eq)]
 pub enum Access {
+    /// An arm that is idle or inside makes none.
     Nothing,
     Read(usize),
+    /// A register, and the value that it is to hold.
     Write(usize, u64),
 }
 
-// The value of register i, or 0 where the bank has none.
+/// The value of register i, or 0 where the bank has none.
 #[tactic(auto, using(crate::proofs::Rooms::read_or_zero))]
 pub fn value_at<B: Bank>(bank: &B, i: usize) -> u64
     ensures { result ≡ slice_index (B.values bank.now) i }
@@ -20,7 +22,7 @@ pub fn value_at<B: Bank>(bank: &B, i: usize) -> u64
 }
 
 impl Access {
-    // Makes the access, and answers the value read; 0 where none is read.
+    /// Makes the access, and answers the value read; 0 where none is read. What the bank refuses to write changes nothing.
     pub fn make<B: Bank>(self, bank: &mut B) -> u64
         ensures value { result ≡ value_read (B.values bank.old) self }
         ensures after { B.values bank.new ≡ regs_after B.HIGHEST (B.values bank.old) self }

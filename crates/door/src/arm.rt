@@ -4,22 +4,22 @@ ghost use Rattle.door.specs.Arms.{advanced, sided};
 
 use crate::position::{Doorway, Exit, Place, Position};
 
-// How many arms a gate has at most.
+/// How many arms a gate has at most.
 pub const ARM_LIMIT: usize = 32;
 
-// What the gate keeps of one arm.
+/// What the gate keeps of one arm. Arm i of a gate stands at place i - 1 of its table, and so do its count and its note in a row.
 #[derive(Clone, Copy)]
 pub struct Arm {
     pub position: Position,
-    // The bit read in the doorway, from then to the end of the visit.
+    /// The bit read in the doorway, from then to the end of the visit: 0 or 1.
     pub side: Option<u64>,
-    // How many visits were begun.
+    /// How many visits were begun, 1,000,000,000 at most.
     pub visits: u32,
-    // Whether the arm's pass is out.
+    /// Whether the arm's pass is out.
     pub out: bool,
-    // How often each other arm went inside past this one.
+    /// How often each other arm went inside past this one; a count stops at 255.
     pub row: [u8; ARM_LIMIT],
-    // Which arms were idle when this one ended its doorway.
+    /// Which arms were idle when this one ended its doorway.
     pub notes: [bool; ARM_LIMIT],
 }
 
@@ -35,21 +35,22 @@ fn next_arm(n: u8, j: u8) -> Position
 }
 
 impl Arm {
-    // The side as a number, 0 where it is missing.
+    /// The side as a number, 0 where it is missing.
     pub fn side_value(&self) -> u64
         ensures { result ≡ side_of self.now.side }
     {
         self.side.unwrap_or(0)
     }
 
-    // Whether the arm has side t.
+    /// Whether the arm has side t.
     pub fn has_side(&self, t: u64) -> bool
         ensures { result ≡ has_side t self.now.side }
     {
         self.side == Some(t)
     }
 
-    // The position and the value just read decide the next position together; it is rewritten in place.
+    /// Moves an arm of n on, once its access has read a value: the position and the value decide the next position together.
+    /// It is rewritten in place.
     pub fn advance(&mut self, n: u8, value: u64)
         ensures { self.new ≡ advanced n value self.old }
     {

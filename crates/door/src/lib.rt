@@ -12,3 +12,7 @@ pub mod arm;
 pub mod refusal;
 // The calls of a gate.
 pub mod call;
+
+pub use call::Call;
+pub use position::Phase;
+pub use refusal::Refusal;

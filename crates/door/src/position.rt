@@ -1,9 +1,9 @@
-ghost use Rattle.std.specs.Prelude.{◌≡◌};
+ghost use Rattle.std.specs.Prelude.{◌≡◌, [], ◌∷◌};
 ghost use Rattle.door.specs.Positions.{choosing_of, mygroup_of, flag_of, phase_of, letter_of, read_by, access_of};
 
 use crate::access::Access;
 
-// The phase of an arm: idle, doorway, waiting, inside, leaving.
+/// The phase of an arm: idle, doorway, waiting, inside, leaving.
 #[derive(Clone, Copy, Debug, PartialEq, Eq)]
 pub enum Phase {
     I,
@@ -14,8 +14,9 @@ pub enum Phase {
 }
 
 impl Phase {
+    /// The letter of a phase in a report, as ASCII.
     pub fn letter(self) -> u8
-        ensures { result ≡ letter_of self }
+        ensures { result ∷ [] ≡ letter_of self }
     {
         match self {
             Phase::I => b'I',
@@ -27,7 +28,7 @@ impl Phase {
     }
 }
 
-// The five places of the doorway.
+/// The five places of the doorway.
 #[derive(Clone, Copy, Debug, PartialEq, Eq)]
 pub enum Doorway {
     D1,
@@ -37,7 +38,7 @@ pub enum Doorway {
     D5,
 }
 
-// The six places of a waiting arm.
+/// The six places of a waiting arm.
 #[derive(Clone, Copy, Debug, PartialEq, Eq)]
 pub enum Place {
     W1,
@@ -48,14 +49,14 @@ pub enum Place {
     W6,
 }
 
-// The two places of the exit.
+/// The two places of the exit.
 #[derive(Clone, Copy, Debug, PartialEq, Eq)]
 pub enum Exit {
     X1,
     X2,
 }
 
-// Where an arm stands. A waiting arm has the index of the arm that it looks at, from 1, and its place.
+/// Where an arm stands. A waiting arm has the index of the arm that it looks at, from 1, and its place.
 #[derive(Clone, Copy, Debug, PartialEq, Eq)]
 pub enum Position {
     Idle,
@@ -65,7 +66,7 @@ pub enum Position {
     Leaving(Exit),
 }
 
-// The register of the group.
+/// The register of the group.
 pub const GROUP: usize = 0;
 
 // The three registers of arm i.
@@ -102,6 +103,7 @@ impl Place {
 }
 
 impl Position {
+    /// The phase that a position belongs to.
     pub fn phase(self) -> Phase
         ensures { result ≡ phase_of self }
     {
@@ -114,7 +116,7 @@ impl Position {
         }
     }
 
-    // The one access that arm i with this side makes here.
+    /// The one access that arm i, from 1, makes here with its side; 0 stands for a side that is missing.
     pub fn access(self, i: u8, side: u64) -> Access
         ensures { result ≡ access_of i side self }
     {

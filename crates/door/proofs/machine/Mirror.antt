@@ -1,12 +1,12 @@
 -- A gate's state mirrors the machine: its registers and records say what the machine's arms are.
 use Rattle.std.proofs.Common.{◌≡◌, ℕ, zero, suc, ◌+◌, ◌-◌, ◌*◌, ◌<◌, ◌≤◌, Bool, true, false, not, T, eqb, ◌≢◌, List, [], ◌∷◌, length, get_or, set, Some, None, Option, sym, refl, ap, ◌∙◌, ⊎_elim, arith}
 use Rattle.std.proofs.lemmas.Bool.Decides.{nat_tests}
-use Rattle.std.proofs.lemmas.Bool.{cases_eq, cond_both}
+use Rattle.std.proofs.lemmas.Bool.{cases_eq}
 use Rattle.std.proofs.lemmas.List.{length-set, get_or-set_same, get_or-set_other, set_past}
 use Rattle.bank.specs.Registers.{written}
 use Rattle.door.specs.Positions.{group, choosing_of, mygroup_of, flag_of, access_of, value_read, regs_after, next_place, next_of, side_after, side_of}
 use Rattle.door.specs.Arms.{no_arm, moved as record_moved}
-use Rattle.door.specs.Tallies.{with_row, counted, each, same_phase, row_started, row_cleared, tallied}
+use Rattle.door.specs.Tallies.{with_row, counted, each, tallied}
 use Rattle.door.specs.States.{State, arm_at, with_table, with_arm}
 use Rattle.door.specs.Calls.{with_visit}
 use Rattle.door.specs.declared.arm.Arm.{Arm}
@@ -21,7 +21,7 @@ use Rattle.door.specs.declared.position.Position.TheVariants.{Doorway, Leaving}
 use Rattle.door.proofs.Bools.{same}
 use Rattle.door.proofs.machine.Machine.{Stance, idle, d1, d2, d3, d4, d5, waits, inside, x1, x2, position, at, side, out, choosing, mygroup, flag, step_waiting, outcome, step_arm, turn_step, begin_arm, admit_arm, leave_arm, may_step, changed, changed_same, changed_other, Machine, moved_to}
 use Rattle.door.proofs.machine.Invariant.{Own}
-use Rattle.door.proofs.Tables.{length_each}
+use Rattle.door.proofs.Tables.{length_each, tallied_holds}
 
 abbrev pub bit : Bool → ℕ
 bit true = 1
@@ -146,11 +146,9 @@ row_table : (r : List ℕ) (t : List Bool) (k : ℕ) (arms : List Arm) → SameT
 row_table r t k arms = (row_seen r t k arms, length-set arms k _)
 
 pub tallied_table : (k : ℕ) (p q : Phase) (arms : List Arm) → SameTable (tallied k p q arms) arms
-tallied_table k P.I q arms = same_table arms
-tallied_table k P.D q arms = cond_both (same_phase q P.W) (row_started k arms) arms (λ rs. SameTable rs arms) (λ _. row_table _ _ k arms) (λ _. same_table arms)
-tallied_table k P.W q arms = cond_both (same_phase q P.F) (each (counted k) 0 arms) arms (λ rs. SameTable rs arms) (λ _. (each_seen (counted k) (counted_seen k) 0 arms, length_each (counted k) 0 arms)) (λ _. same_table arms)
-tallied_table k P.F q arms = same_table arms
-tallied_table k P.X q arms = cond_both (same_phase q P.I) (row_cleared k arms) arms (λ rs. SameTable rs arms) (λ _. row_table _ _ k arms) (λ _. same_table arms)
+tallied_table k p q arms =
+    tallied_holds (λ rs. SameTable rs arms) k p q arms (same_table arms) (row_table _ _ k arms)
+    (each_seen (counted k) (counted_seen k) 0 arms, length_each (counted k) 0 arms) (row_table _ _ k arms)
 
 pub tallied_mirror : (s : State) (regs : List ℕ) (k : ℕ) (p q : Phase) (arms : List Arm) (g : Machine) → Mirror (with_table regs arms s) g → Mirror (with_table regs (tallied k p q arms) s) g
 tallied_mirror s regs k p q arms g mir =
