@@ -18,15 +18,15 @@ pub largest_none : (len n : ℕ) → n ≡ 0 → largest len n ≡ n
 unfolding largest
 largest_none len n e = rw e
 
-pub largest_here : (len n : ℕ) → 0 < n → leb (room n) len ≡ true → largest len n ≡ n
+pub largest_here : (len n : ℕ) → 0 < n → true ≡ leb (room n) len → largest len n ≡ n
 unfolding largest
 largest_here len zero h t = absurd (omega arith)
-largest_here len (suc n) h t = rw t
+largest_here len (suc n) h t = rw (← t)
 
-pub largest_down : (len n : ℕ) → 0 < n → leb (room n) len ≡ false → largest len (n - 1) ≡ largest len n
+pub largest_down : (len n : ℕ) → 0 < n → false ≡ leb (room n) len → largest len (n - 1) ≡ largest len n
 unfolding largest
 largest_down len zero h t = absurd (omega arith)
-largest_down len (suc n) h t = let e : suc n - 1 ≡ n = omega arith in rw (e, t)
+largest_down len (suc n) h t = let e : suc n - 1 ≡ n = omega arith in rw (e, ← t)
 
 largest_most : (len k : ℕ) → largest len k ≤ k
 unfolding largest

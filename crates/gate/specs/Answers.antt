@@ -37,11 +37,8 @@ leave_answer s p = handed_back p (refusal_of s (leave p.gate p.arm))
 
 -- the arm that a waiting arm looks at, else 0
 abbrev pub index_of : Position → ℕ
-index_of At.Idle = 0
-index_of (At.Doorway d) = 0
 index_of (At.Waiting j p) = j
-index_of At.Inside = 0
-index_of (At.Leaving x) = 0
+index_of p = 0
 
 -- what look tells of a record
 abbrev pub view_of : Arm → View

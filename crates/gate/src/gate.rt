@@ -1,59 +1,48 @@
-ghost use Rattle.std.specs.Prelude.{◌≡◌, ◌≤◌, length};
-ghost use Rattle.door.specs.Law.{IsReached};
-ghost use Rattle.door.specs.Limits.{arm_limit};
-
-// Making a gate, and taking it apart.
-mod making;
-// Which calls are refused.
-mod refusals;
-// Begin and step.
-mod moving;
-// Admit, confirm and leave.
-mod passing;
-// Look, tally, and what a report wants to know.
-mod watching;
-// Right of way.
-mod way;
-// A gate that carries out a list of calls.
-pub mod carrying;
-// Whether two gates are alike.
-pub mod comparing;
-
-use bank::interface::Bank;
+use bank::Bank;
+use door::Phase;
 use door::arm::{ARM_LIMIT, Arm};
-use door::position::Phase;
+use std::marker::Model;
 
-// Steps up to 32 arms towards a shared section. It owns its bank.
+/// Steps up to 32 arms towards a shared section. It owns its bank.
 #[derive(Drop)]
 pub struct Gate<B: Bank> {
-    bank: B,
-    number: u16,
-    n: usize,
-    arms: [Arm; ARM_LIMIT],
-    ghost few: { n ≤ arm_limit },
-    ghost full: { length arms ≡ arm_limit },
-    // Only a making and calls lead to a gate.
-    ghost reached: { IsReached (record { high = B.highest; number = number; n = n; regs = B.values bank; arms = arms }) },
+    pub(crate) bank: B,
+    pub(crate) number: u16,
+    pub(crate) n: usize,
+    pub(crate) arms: [Arm; ARM_LIMIT],
 }
 
-// What look tells of an arm.
+// Clauses see a gate as its state. Only a making and calls lead to one.
+impl<B: Bank> Model for Gate<B> {
+    ghost use Rattle.door.specs.States.{State};
+    ghost use Rattle.gate.specs.Gates.{IsGate};
+
+    ghost Value = { State };
+
+    ghost view = { λ g. record { memory = B.memory g.bank; high = B.HIGHEST; number = g.number; n = g.n; regs = B.values g.bank; arms = g.arms } };
+
+    ghost invariant = { λ g. IsGate (record { memory = B.memory g.bank; high = B.HIGHEST; number = g.number; n = g.n; regs = B.values g.bank; arms = g.arms }) };
+}
+
+/// What look tells of an arm.
 #[derive(Clone, Copy, Debug, PartialEq, Eq)]
 pub struct View {
     pub phase: Phase,
-    // None where it is missing.
+    /// The bit that it read in its doorway, 0 or 1; none where it is missing.
     pub side: Option<u64>,
-    // The arm that a waiting arm looks at, else 0.
+    /// The arm that a waiting arm looks at, from 1; else 0.
     pub index: usize,
+    /// How many visits were begun, 1,000,000,000 at most.
     pub visits: u32,
-    // Whether its pass is out.
+    /// Whether its pass is out.
     pub out: bool,
 }
 
-// What tally tells of two arms.
+/// What tally tells of two arms.
 #[derive(Clone, Copy, Debug, PartialEq, Eq)]
 pub struct Tally {
-    // How often the other went inside past the first.
+    /// How often the other went inside past the first; the count stops at 255.
     pub count: u8,
-    // Whether the other was idle when the first ended its doorway.
+    /// Whether the other was idle when the first ended its doorway.
     pub idle: bool,
 }

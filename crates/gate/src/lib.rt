@@ -1,11 +1,30 @@
 //! The fair gate: up to 32 arms step towards a shared section, one register access at a time.
 #![tactic(auto)]
 
+// The gate, and what its calls answer.
+mod gate;
 // A pass for an arm inside.
-pub mod pass;
-// How many arms a bank has room for, and its registers at the start.
+mod pass;
+// Making a gate, and taking it apart.
 mod making;
+// Which calls are refused.
+mod refusals;
+// Begin and step.
+mod moving;
+// Admit, confirm and leave.
+mod passing;
+// Look, tally, and what a report wants to know.
+mod watching;
+// Right of way.
+mod way;
 // How often each arm went inside past another.
-mod tally;
-// The gate and its calls.
-pub mod gate;
+mod rows;
+// A gate that carries out a list of calls.
+mod carrying;
+// Whether two gates are alike.
+mod comparing;
+
+pub use carrying::carry_out;
+pub use comparing::same;
+pub use gate::{Gate, Tally, View};
+pub use pass::{HandedBack, Pass};

@@ -1,9 +1,12 @@
 ghost use Rattle.std.specs.Prelude.{◌≡◌, ◌+◌, ◌*◌, ◌≤◌, length, nat_le};
 ghost use Rattle.door.specs.Limits.{arm_limit};
 ghost use Rattle.door.specs.Making.{arms_for, cleared, room};
+ghost use Rattle.door.specs.States.{made};
 
-use bank::interface::Bank;
-use door::arm::ARM_LIMIT;
+use crate::gate::Gate;
+use bank::Bank;
+use door::arm::{ARM_LIMIT, Arm};
+use door::position::Position;
 
 // How many registers n arms take.
 pub(crate) fn registers(n: usize) -> usize
@@ -22,10 +25,10 @@ fn has_room<B: Bank>(bank: &B, n: usize) -> bool
 }
 
 // How many arms a gate over this bank gets.
-pub(crate) fn arm_count<B: Bank>(bank: &B, wanted: usize) -> usize
-    ensures { result ≡ arms_for B.highest (length (B.values bank.now)) wanted }
+fn arm_count<B: Bank>(bank: &B, wanted: usize) -> usize
+    ensures { result ≡ arms_for B.HIGHEST (length (B.values bank.now)) wanted }
 {
-    if B::limit() == 0 {
+    if B::HIGHEST == 0 {
         return 0;
     }
     let mut n = wanted.min(ARM_LIMIT);
@@ -36,11 +39,53 @@ pub(crate) fn arm_count<B: Bank>(bank: &B, wanted: usize) -> usize
 }
 
 // Writes 0 to registers 0 to count - 1.
-pub(crate) fn clear<B: Bank>(bank: &mut B, count: usize)
+fn clear<B: Bank>(bank: &mut B, count: usize)
     requires { count ≤ length (B.values bank.old) }
-    ensures { B.values bank.new ≡ cleared count (B.values bank.old) }
+    ensures after { B.values bank.new ≡ cleared count (B.values bank.old) }
+    ensures lent { B.memory bank.new ≡ B.memory bank.old }
 {
     for i in 0..count {
         let _ = bank.write(i, 0);
+    }
+}
+
+impl<B: Bank> Gate<B> {
+    /// A gate over a bank, which it owns from then on; with the wanted arm count, or as many as there is room for, 32 at most.
+    /// It cannot be refused.
+    pub fn make(mut bank: B, number: u16, wanted: usize) -> Gate<B>
+        ensures { result ≡ made (B.memory bank) B.HIGHEST number wanted (B.values bank) }
+    {
+        let n = arm_count(&bank, wanted);
+        if n > 0 {
+            clear(&mut bank, registers(n));
+        }
+        let arm = Arm {
+            position: Position::Idle,
+            side: None,
+            visits: 0,
+            out: false,
+            row: [0; ARM_LIMIT],
+            notes: [false; ARM_LIMIT],
+        };
+        Gate {
+            bank,
+            number,
+            n,
+            arms: [arm; ARM_LIMIT],
+        }
+    }
+
+    /// Ends the gate and hands its bank back, as it stands: it is over the memory that the gate's bank was made over.
+    pub fn into_bank(self) -> B
+        ensures values { B.values result ≡ self.regs }
+        ensures lent { B.memory result ≡ self.memory }
+    {
+        let Gate {
+            bank,
+            number: _,
+            n: _,
+            arms: _,
+        } = self;
+        bank
     }
 }

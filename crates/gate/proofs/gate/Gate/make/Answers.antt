@@ -10,14 +10,15 @@ registers-requires g c = subst (λ n. n ≤ arm_limit) (sym c.arm_count-n.ensure
 
 pub clear-requires : goal.clear-requires
 clear-requires g c =
-    let high = g.B.Bank.highest in
+    let high = g.B.Bank.HIGHEST in
     let len = length (g.B.Bank.values c.args.bank) in
     let some = subst (λ n. 0 < n) c.arm_count-n.ensures c.if-n-gt0.true in
     subst (λ k. k ≤ len) (sym c.registers.ensures) (subst (λ n. room n ≤ len) (sym c.arm_count-n.ensures) (arms_fit high len c.args.wanted some))
 
-pub invariant_of-result-clause-few : goal.invariant_of-result-clause-few
-invariant_of-result-clause-few g c = subst (λ n. n ≤ arm_limit) (sym c.arm_count-n.ensures) (arms_few _ _ _)
-
-pub invariant_of-result-clause-reached : goal.invariant_of-result-clause-reached
-invariant_of-result-clause-reached g c =
-    reached_made g.B.Bank.highest c.args.number c.args.wanted (g.B.Bank.values c.args.bank) _ (search rules)
+pub invariant_of-result : goal.invariant_of-result
+invariant_of-result g c =
+    record {
+      few = subst (λ n. n ≤ arm_limit) (sym c.arm_count-n.ensures) (arms_few _ _ _);
+      full = search rules;
+      reached = reached_made (g.B.Bank.memory c.args.bank) g.B.Bank.HIGHEST c.args.number c.args.wanted (g.B.Bank.values c.args.bank) _ (search rules);
+    }

@@ -2,7 +2,7 @@ use Rattle.std.proofs.Common.{◌≡◌, ℕ, ◌<◌, false, length, get_or}
 use Rattle.door.specs.Limits.{arm_limit}
 use Rattle.door.specs.Arms.{no_arm}
 use Rattle.door.specs.Tallies.{is_idle}
-use Rattle.gate.proofs.tally.idle_arms.Given as goal
+use Rattle.gate.proofs.rows.idle_arms.Given as goal
 
 -- the places below k tell who is idle
 abbrev pub invariant-loop-k : goal.invariant-loop-k

@@ -2,7 +2,7 @@ use Rattle.std.proofs.Common.{false, sym, ◌∙◌, arith}
 use Rattle.door.specs.Arms.{no_arm}
 use Rattle.door.specs.Tallies.{is_idle}
 use Rattle.door.proofs.Tables.{map_from}
-use Rattle.gate.proofs.tally.idle_arms.Goals as goal
+use Rattle.gate.proofs.rows.idle_arms.Goals as goal
 
 pub returns : goal.returns
 returns c =

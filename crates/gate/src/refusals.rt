@@ -3,38 +3,39 @@ ghost use Rattle.door.specs.States.{is_arm};
 ghost use Rattle.door.specs.declared.call.Call.TheVariants.{Begin, Step, Admit, Look, Way};
 ghost use Rattle.door.specs.Calls.{knows};
 ghost use Rattle.gate.specs.Answers.{record_for};
-ghost use Rattle.gate.specs.Whole.{whole};
+ghost use Rattle.gate.specs.Gates.{IsGate};
 
 use crate::gate::Gate;
 use crate::pass::Pass;
-use bank::interface::Bank;
+use bank::Bank;
 use door::arm::Arm;
-use door::position::Phase;
-use door::refusal::Refusal;
+use door::{Phase, Refusal};
 
 // How many visits an arm begins at most.
 const VISIT_LIMIT: u32 = 1_000_000_000;
 
 impl<B: Bank> Gate<B> {
     pub(crate) fn is_arm(&self, i: usize) -> bool
-        ensures { result ≡ is_arm (whole self.now) i }
+        ensures { result ≡ is_arm self.now i }
     {
         i >= 1 && i <= self.n
     }
 
     // The record of an arm that the gate has.
     pub(crate) fn record(&self, i: usize) -> Result<Arm, Refusal>
-        ensures { result ≡ record_for (whole self.now) (Look i) i }
+        ensures record { result ≡ record_for self.now (Look i) i }
+        ensures gate { IsGate self.now }
     {
+        let arms = &self.arms;
         if !self.is_arm(i) {
             return Err(Refusal::NoArm);
         }
-        Ok(self.arms[i - 1])
+        Ok(arms[i - 1])
     }
 
     // The record of an arm that may begin.
     pub(crate) fn may_begin(&self, i: usize) -> Result<Arm, Refusal>
-        ensures { result ≡ record_for (whole self.now) (Begin i) i }
+        ensures { result ≡ record_for self.now (Begin i) i }
     {
         let arm = self.record(i)?;
         match arm.position.phase() {
@@ -46,7 +47,8 @@ impl<B: Bank> Gate<B> {
 
     // The record of an arm that may step.
     pub(crate) fn may_step(&self, i: usize) -> Result<Arm, Refusal>
-        ensures { result ≡ record_for (whole self.now) (Step i) i }
+        ensures record { result ≡ record_for self.now (Step i) i }
+        ensures gate { IsGate self.now }
     {
         let arm = self.record(i)?;
         match arm.position.phase() {
@@ -58,7 +60,7 @@ impl<B: Bank> Gate<B> {
 
     // The record of an arm that may be admitted.
     pub(crate) fn may_admit(&self, i: usize) -> Result<Arm, Refusal>
-        ensures { result ≡ record_for (whole self.now) (Admit i) i }
+        ensures { result ≡ record_for self.now (Admit i) i }
     {
         let arm = self.record(i)?;
         match arm.position.phase() {
@@ -70,7 +72,8 @@ impl<B: Bank> Gate<B> {
 
     // The record of an arm that waits.
     pub(crate) fn waits(&self, i: usize) -> Result<Arm, Refusal>
-        ensures { result ≡ record_for (whole self.now) (Way i) i }
+        ensures record { result ≡ record_for self.now (Way i) i }
+        ensures gate { IsGate self.now }
     {
         let arm = self.record(i)?;
         match arm.position.phase() {
@@ -81,13 +84,10 @@ impl<B: Bank> Gate<B> {
 
     // Whether the pass is of this gate and its arm's pass is out.
     pub(crate) fn knows(&self, pass: &Pass) -> bool
-        ensures { result ≡ knows (whole self.now) pass.now.gate pass.now.arm }
+        ensures { result ≡ knows self.now pass.now.gate pass.now.arm }
     {
         let i = pass.arm;
-        if pass.gate != self.number || !self.is_arm(i) {
-            return false;
-        }
-        let arm = self.arms[i - 1];
-        arm.out
+        let arms = &self.arms;
+        pass.gate == self.number && self.is_arm(i) && arms[i - 1].out
     }
 }

@@ -3,8 +3,8 @@ ghost use Rattle.door.specs.Limits.{arm_limit};
 ghost use Rattle.gate.specs.Answers.{largest_count};
 ghost use Rattle.door.specs.Tallies.{past_doorway, counted, each, is_idle, row_started, row_cleared, tallied};
 
+use door::Phase;
 use door::arm::{ARM_LIMIT, Arm};
-use door::position::Phase;
 
 // Whether an arm in this phase counts the entries of others: in W, F or X.
 fn counts(phase: Phase) -> bool

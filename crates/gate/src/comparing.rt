@@ -1,13 +1,12 @@
 ghost use Rattle.std.specs.Prelude.{◌≡◌, ℕ, ◌<◌, ◌≤◌, ◌↔◌, IsTrue, slice_index, slice_index_or};
 ghost use Rattle.door.specs.Limits.{arm_limit};
 ghost use Rattle.gate.specs.Alike.{Alike};
-ghost use Rattle.door.specs.Positions.{phase_of, letter_of};
+ghost use Rattle.door.specs.Positions.{phase_of};
 ghost use Rattle.door.specs.Arms.{no_arm};
-ghost use Rattle.gate.specs.Whole.{whole};
 
 use crate::gate::Gate;
 use crate::making::registers;
-use bank::interface::Bank;
+use bank::Bank;
 use door::access::value_at;
 use door::arm::{ARM_LIMIT, Arm};
 
@@ -18,30 +17,22 @@ fn same_registers<B: Bank, C: Bank>(a: &B, b: &C, count: usize) -> bool
     (0..count).all(|i| value_at(a, i) == value_at(b, i))
 }
 
-// The phase letter of the record at k.
-fn letter_at(arms: &[Arm; ARM_LIMIT], k: usize) -> u8
-    requires { k < arm_limit }
-    ensures { result ≡ letter_of (phase_of (slice_index_or arms.now k no_arm).position) }
-{
-    arms[k].position.phase().letter()
-}
-
-// Whether the first records of two tables have the same phase letters.
+// Whether the first records of two tables are in the same phases.
 fn same_phases(a: &[Arm; ARM_LIMIT], b: &[Arm; ARM_LIMIT], count: usize) -> bool
     requires { count ≤ arm_limit }
-    ensures { IsTrue result ↔ ((k : ℕ) → k < count → letter_of (phase_of (slice_index_or a.now k no_arm).position) ≡ letter_of (phase_of (slice_index_or b.now k no_arm).position)) }
+    ensures { IsTrue result ↔ ((k : ℕ) → k < count → phase_of (slice_index_or a.now k no_arm).position ≡ phase_of (slice_index_or b.now k no_arm).position) }
 {
     for k in 0..count {
-        if letter_at(a, k) != letter_at(b, k) {
+        if a[k].position.phase() != b[k].position.phase() {
             return false;
         }
     }
     true
 }
 
-// Whether two gates have as many arms, the same registers and the same phase letters.
+/// Whether two gates, over banks of any kinds, have as many arms, the same registers and arms in the same phases.
 pub fn same<B: Bank, C: Bank>(a: &Gate<B>, b: &Gate<C>) -> bool
-    ensures { IsTrue result ↔ Alike (whole a.now) (whole b.now) }
+    ensures { IsTrue result ↔ Alike a.now b.now }
 {
     a.n == b.n
         && (a.n == 0

@@ -2,20 +2,20 @@ ghost use Rattle.std.specs.Prelude.{◌≡◌};
 ghost use Rattle.door.specs.declared.call.Call.TheVariants.{Admit, Leave};
 ghost use Rattle.gate.specs.Answers.{admit_answer, leave_answer};
 ghost use Rattle.door.specs.Calls.{after, knows};
-ghost use Rattle.gate.specs.Whole.{whole};
 
 use crate::gate::Gate;
 use crate::pass::{HandedBack, Pass};
-use bank::interface::Bank;
+use bank::Bank;
+use door::Refusal;
 use door::arm::Arm;
 use door::position::{Exit, Phase, Position};
-use door::refusal::Refusal;
 
 impl<B: Bank> Gate<B> {
-    // Gives the pass of an arm inside, and marks it as out.
+    /// Gives the pass of an arm inside, and marks it as out. Refuses with 1, 6 or 7.
+    /// The pass must be spent by `leave`.
     pub fn admit(&mut self, arm: usize) -> Result<Pass, Refusal>
-        ensures answer { result ≡ admit_answer (whole self.old) arm }
-        ensures after { whole self.new ≡ after (whole self.old) (Admit arm) }
+        ensures answer { result ≡ admit_answer self.old arm }
+        ensures after { self.new ≡ after self.old (Admit arm) }
     {
         let record = self.may_admit(arm)?;
         self.arms[arm - 1] = Arm {
@@ -29,19 +29,19 @@ impl<B: Bank> Gate<B> {
         })
     }
 
-    // Hands the pass back, with yes if it is of this gate and its arm's pass is out.
+    /// Hands the pass back, with yes if it is of this gate and its arm's pass is out. It is never refused.
     pub fn confirm(&self, pass: Pass) -> (Pass, bool)
         ensures same { result.0 ≡ pass }
-        ensures answer { result.1 ≡ knows (whole self.now) pass.gate pass.arm }
+        ensures answer { result.1 ≡ knows self.now pass.gate pass.arm }
     {
         let yes = self.knows(&pass);
         (pass, yes)
     }
 
-    // Spends a pass that the gate knows, and sends its arm to the exit. Any other pass is handed back.
+    /// Spends a pass that `confirm` would say yes to, and sends its arm to the exit. Any other is handed back with 8.
     pub fn leave(&mut self, mut pass: Pass) -> Result<Phase, HandedBack>
-        ensures answer { result ≡ leave_answer (whole self.old) pass }
-        ensures after { whole self.new ≡ after (whole self.old) (Leave pass.gate pass.arm) }
+        ensures answer { result ≡ leave_answer self.old pass }
+        ensures after { self.new ≡ after self.old (Leave pass.gate pass.arm) }
     {
         if !self.knows(&pass) {
             return Err(HandedBack {

@@ -2,17 +2,16 @@ ghost use Rattle.std.specs.Prelude.{◌≡◌};
 ghost use Rattle.door.specs.States.{made};
 ghost use Rattle.door.specs.Calls.{after, run};
 ghost use Rattle.door.specs.Law.{Fair};
-ghost use Rattle.gate.specs.Whole.{whole};
 
 use crate::gate::Gate;
 use crate::pass::{HandedBack, Pass};
-use bank::interface::Bank;
-use door::call::Call;
+use bank::Bank;
+use door::Call;
 
 impl<B: Bank> Gate<B> {
     // Makes one call; what it answers is let go, and a pass is known by its number.
     fn carry(&mut self, call: Call)
-        ensures { whole self.new ≡ after (whole self.old) call }
+        ensures { self.new ≡ after self.old call }
     {
         match call {
             Call::Begin(arm) => {
@@ -48,10 +47,11 @@ impl<B: Bank> Gate<B> {
     }
 }
 
-// Makes a gate over a bank and carries out the calls, one after another.
+/// Makes a gate over a bank and carries out the calls, one after another. A pass is known by its gate number and arm;
+/// the passes that the list admits are ended here, so an arm that it leaves inside can leave by a later call of the same list only.
 pub fn carry_out<B: Bank>(bank: B, number: u16, wanted: usize, calls: &[Call]) -> Gate<B>
-    ensures state { whole result ≡ run (made B.highest number wanted (B.values bank)) calls.now }
-    ensures law { Fair (made B.highest number wanted (B.values bank)) calls.now (whole result) }
+    ensures state { result ≡ run (made (B.memory bank) B.HIGHEST number wanted (B.values bank)) calls.now }
+    ensures law { Fair (made (B.memory bank) B.HIGHEST number wanted (B.values bank)) calls.now result }
 {
     let mut gate = Gate::make(bank, number, wanted);
     for call in calls {

@@ -1,7 +1,7 @@
 use Rattle.std.proofs.Common.{sym, ◌∙◌, arith}
 use Rattle.door.specs.Tallies.{counted}
 use Rattle.door.proofs.Tables.{each_from}
-use Rattle.gate.proofs.tally.count_entry.Goals as goal
+use Rattle.gate.proofs.rows.count_entry.Goals as goal
 
 pub returns : goal.returns
 returns c =

@@ -1,14 +1,13 @@
 ghost use Rattle.std.specs.Prelude.{◌≡◌};
 ghost use Rattle.gate.specs.Answers.{index_of, look_answer, tally_answer, most_answer};
 ghost use Rattle.door.specs.States.{bit_of};
-ghost use Rattle.gate.specs.Whole.{whole};
 
 use crate::gate::{Gate, Tally, View};
-use crate::tally::largest;
-use bank::interface::Bank;
+use crate::rows::largest;
+use bank::Bank;
+use door::Refusal;
 use door::access::value_at;
 use door::position::{GROUP, Position};
-use door::refusal::Refusal;
 
 // The arm that a waiting arm looks at, else 0.
 fn index_of(position: Position) -> usize
@@ -21,16 +20,16 @@ fn index_of(position: Position) -> usize
 }
 
 impl<B: Bank> Gate<B> {
-    // How many arms the gate has.
+    /// How many arms the gate has, 32 at most.
     pub fn arm_count(&self) -> usize
         ensures { result ≡ self.now.n }
     {
         self.n
     }
 
-    // The group bit; 0 where the gate has no arms.
+    /// The group bit; 0 where the gate has no arms.
     pub fn bit(&self) -> u64
-        ensures { result ≡ bit_of (whole self.now) }
+        ensures { result ≡ bit_of self.now }
     {
         if self.arm_count() == 0 {
             return 0;
@@ -38,9 +37,9 @@ impl<B: Bank> Gate<B> {
         value_at(&self.bank, GROUP)
     }
 
-    // Phase, side, index, visits and mark of an arm.
+    /// Phase, side, index, visits and mark of an arm. Refuses with 1.
     pub fn look(&self, arm: usize) -> Result<View, Refusal>
-        ensures { result ≡ look_answer (whole self.now) arm }
+        ensures { result ≡ look_answer self.now arm }
     {
         let record = self.record(arm)?;
         Ok(View {
@@ -52,9 +51,10 @@ impl<B: Bank> Gate<B> {
         })
     }
 
-    // How often the other arm went inside past this one, and whether it was idle when this one ended its doorway.
+    /// How often the other arm went inside past this one, and whether it was idle when this one ended its doorway.
+    /// Refuses with 1, for either arm.
     pub fn tally(&self, arm: usize, other: usize) -> Result<Tally, Refusal>
-        ensures { result ≡ tally_answer (whole self.now) arm other }
+        ensures { result ≡ tally_answer self.now arm other }
     {
         let record = self.record(arm)?;
         self.record(other)?;
@@ -64,9 +64,9 @@ impl<B: Bank> Gate<B> {
         })
     }
 
-    // The most that any arm went inside past this one: the largest count of its row.
+    /// The most that any arm went inside past this one: the largest count of its row, 255 at most. Refuses with 1.
     pub fn most_passed(&self, arm: usize) -> Result<u8, Refusal>
-        ensures { result ≡ most_answer (whole self.now) arm }
+        ensures { result ≡ most_answer self.now arm }
     {
         let record = self.record(arm)?;
         Ok(largest(&record.row, self.n))

@@ -3,23 +3,22 @@ use Rattle.std.proofs.lemmas.List.{take_all}
 use Rattle.door.specs.Calls.{run, after}
 use Rattle.door.specs.Law.{Fair}
 use Rattle.door.specs.States.{made}
-use Rattle.gate.specs.Whole.{whole}
 use Rattle.door.specs.declared.call.Call.TheVariants.{Begin}
 use Rattle.door.proofs.machine.Reached.{run_more}
 use Rattle.door.proofs.Fairness.{fair}
-use Rattle.gate.proofs.gate.carrying.carry_out.Goals as goal
+use Rattle.gate.proofs.carrying.carry_out.Goals as goal
 
 pub loop-call-preserved : goal.loop-call-preserved
 loop-call-preserved g c =
-    let first = whole c.make-gate.result in
+    let first = c.make-gate.result in
     let call = get_or c.args.calls.now c.loop-call.call-index (Begin 0) in
     c.carry.ensures
     ∙ (ap (λ s. after s call) c.loop-call.invariant ∙ sym (run_more first c.args.calls.now c.loop-call.call-index (Begin 0) c.loop-call-test.true))
 
 pub returns : goal.returns
 returns g c =
-    let start = made g.B.Bank.highest c.args.number c.args.wanted (g.B.Bank.values c.args.bank) in
-    let now = whole c.loop-call.gate in
-    let e : now ≡ run start c.args.calls.now =
+    let bank = g.B.Bank in
+    let start = made (bank.memory c.args.bank) bank.HIGHEST c.args.number c.args.wanted (bank.values c.args.bank) in
+    let e : c.loop-call.gate ≡ run start c.args.calls.now =
     c.loop-call.invariant ∙ (ap (run _) (take_all c.loop-call.call-index c.args.calls.now c.loop-call-test.false) ∙ ap (λ s. run s c.args.calls.now) c.make-gate.ensures) in
-    record { state = e; law = subst (Fair start c.args.calls.now) (sym e) (fair g.B.Bank.highest c.args.number c.args.wanted (g.B.Bank.values c.args.bank) c.args.calls.now) }
+    record { state = e; law = subst (Fair start c.args.calls.now) (sym e) (fair (bank.memory c.args.bank) bank.HIGHEST c.args.number c.args.wanted (bank.values c.args.bank) c.args.calls.now) }

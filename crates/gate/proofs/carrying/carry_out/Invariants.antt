@@ -1,0 +1,7 @@
+use Rattle.std.proofs.Common.{◌≡◌, take}
+use Rattle.door.specs.Calls.{run}
+use Rattle.gate.proofs.carrying.carry_out.Given as goal
+
+-- the calls so far are carried out
+abbrev pub invariant-loop-call : goal.invariant-loop-call
+invariant-loop-call g l = l.gate ≡ run l.initial.gate (take l.call-index l.calls)
