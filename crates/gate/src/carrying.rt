@@ -51,6 +51,7 @@ impl<B: Bank> Gate<B> {
 /// the passes that the list admits are ended here, so an arm that it leaves inside can leave by a later call of the same list only.
 pub fn carry_out<B: Bank>(bank: B, number: u16, wanted: usize, calls: &[Call]) -> Gate<B>
     ensures state { result ≡ run (made (B.memory bank) B.HIGHEST number wanted (B.values bank)) calls.now }
+    ensures lent { result.memory ≡ B.memory bank }
     ensures law { Fair (made (B.memory bank) B.HIGHEST number wanted (B.values bank)) calls.now result }
 {
     let mut gate = Gate::make(bank, number, wanted);

@@ -113,6 +113,14 @@ pub run_n : (cs : List Call) (s : State) → (run s cs).n ≡ s.n
 run_n [] s = refl
 run_n (c ∷ cs) s = run_n cs (after s c) ∙ after_n s c
 
+-- nor which memory its bank writes
+after_memory : (s : State) (c : Call) → (after s c).memory ≡ s.memory
+after_memory s c = grind arith
+
+pub run_memory : (cs : List Call) (s : State) → (run s cs).memory ≡ s.memory
+run_memory [] s = refl
+run_memory (c ∷ cs) s = run_memory cs (after s c) ∙ after_memory s c
+
 -- calls one after another
 pub run_append : (xs ys : List Call) (s : State) → run s (xs ++ ys) ≡ run (run s xs) ys
 run_append [] ys s = refl

@@ -4,7 +4,7 @@ use Rattle.door.specs.Calls.{run, after}
 use Rattle.door.specs.Law.{Fair}
 use Rattle.door.specs.States.{made}
 use Rattle.door.specs.declared.call.Call.TheVariants.{Begin}
-use Rattle.door.proofs.machine.Reached.{run_more}
+use Rattle.door.proofs.machine.Reached.{run_more, run_memory}
 use Rattle.door.proofs.Fairness.{fair}
 use Rattle.gate.proofs.carrying.carry_out.Goals as goal
 
@@ -21,4 +21,4 @@ returns g c =
     let start = made (bank.memory c.args.bank) bank.HIGHEST c.args.number c.args.wanted (bank.values c.args.bank) in
     let e : c.loop-call.gate ≡ run start c.args.calls.now =
     c.loop-call.invariant ∙ (ap (run _) (take_all c.loop-call.call-index c.args.calls.now c.loop-call-test.false) ∙ ap (λ s. run s c.args.calls.now) c.make-gate.ensures) in
-    record { state = e; law = subst (Fair start c.args.calls.now) (sym e) (fair (bank.memory c.args.bank) bank.HIGHEST c.args.number c.args.wanted (bank.values c.args.bank) c.args.calls.now) }
+    record { state = e; lent = ap (λ s. s.memory) e ∙ run_memory c.args.calls.now start; law = subst (Fair start c.args.calls.now) (sym e) (fair (bank.memory c.args.bank) bank.HIGHEST c.args.number c.args.wanted (bank.values c.args.bank) c.args.calls.now) }
