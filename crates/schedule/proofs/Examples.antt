@@ -1,7 +1,7 @@
 -- The definitions at small files.
 use Rattle.std.proofs.Common.{◌≡◌, List, [], ◌∷◌, Ok, Err, Result, refl}
-use Rattle.schedule.specs.declared.order.Order.{Order}
-use Rattle.schedule.specs.declared.order.Order.TheVariants.{Begin, Step, Leave}
+use Rattle.schedule.specs.declared.order_number.Order.{Order}
+use Rattle.schedule.specs.declared.order_number.Order.TheVariants.{Begin, Step, Leave}
 use Rattle.schedule.specs.declared.fault.NumberFault.TheVariants.{Cut, Padded, Large}
 use Rattle.schedule.specs.declared.fault.ScheduleFault.TheVariants.{Number, ArmCount, UnknownOrder}
 use Rattle.schedule.specs.declared.fault.PlayFault.{PlayFault}

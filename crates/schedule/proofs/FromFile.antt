@@ -2,12 +2,12 @@
 use Rattle.std.proofs.Common.{◌≡◌, ℕ, zero, suc, ◌+◌, ◌<◌, ◌≤◌, List, [], ◌∷◌, ◌++◌, length, drop, Ok, Err, Result, sym, refl, ◌∙◌, subst, arith, length-drop}
 use Rattle.std.proofs.lemmas.List.Elements.{All-nil, All-cons, All-drop}
 use Rattle.std.proofs.lemmas.Bool.Decides.{nat_tests}
-use Rattle.schedule.specs.declared.order.Order.{Order}
+use Rattle.schedule.specs.declared.order_number.Order.{Order}
 use Rattle.schedule.specs.declared.number.Number.{Number}
-use Rattle.schedule.specs.declared.reader.Placed.{Placed}
+use Rattle.schedule.specs.declared.parts.Placed.{Placed}
 use Rattle.schedule.specs.declared.fault.ScheduleFault.{ScheduleFault}
-use Rattle.schedule.specs.Laws.{bytes_of, Bytes, ReadsLawful}
-use Rattle.schedule.specs.Limits.{file_limit, largest_arm}
+use Rattle.schedule.specs.Laws.{bytes_of, IsBytes, ReadsLawful}
+use Rattle.schedule.specs.FileLimits.{file_limit, largest_arm}
 use Rattle.schedule.specs.Numbers.{groups}
 use Rattle.schedule.specs.Orders.{order_number, arm_of}
 use Rattle.schedule.specs.Reading.{Contents, arms_from, order_from, orders_from, says}
@@ -24,7 +24,7 @@ pub record Listed (bytes : List ℕ) (os : List Order) : Type 0 where
   pub are : bytes ≡ order_bytes os
 
 -- the first order of some bytes
-first_order : (place count : ℕ) (bytes : List ℕ) (p : Placed) → Bytes bytes → order_from place count bytes ≡ Ok p
+first_order : (place count : ℕ) (bytes : List ℕ) (p : Placed) → IsBytes bytes → order_from place count bytes ≡ Ok p
     → (arm_of p.order ≤ largest_arm) × (bytes ≡ groups (order_number p.order) ++ drop (span bytes) bytes)
 first_order place count bytes p b e =
     let q = order_parts place count bytes p e in
@@ -34,10 +34,10 @@ first_order place count bytes p b e =
 
 abbrev Back : ℕ → Type 0
 Back fuel =
-    (place count : ℕ) (bytes : List ℕ) (os : List Order) → length bytes ≤ fuel → Bytes bytes
+    (place count : ℕ) (bytes : List ℕ) (os : List Order) → length bytes ≤ fuel → IsBytes bytes
     → orders_from place count bytes ≡ Ok os → Listed bytes os
 
-one_back : (fuel place count x : ℕ) (bytes : List ℕ) (os : List Order) (p : Placed) → Back fuel → length bytes ≤ fuel → Bytes (x ∷ bytes)
+one_back : (fuel place count x : ℕ) (bytes : List ℕ) (os : List Order) (p : Placed) → Back fuel → length bytes ≤ fuel → IsBytes (x ∷ bytes)
     → orders_from place count (x ∷ bytes) ≡ Ok os → order_from place count (x ∷ bytes) ≡ Ok p → Listed (x ∷ bytes) os
 one_back fuel place count x bytes os p back l b e r =
     let all = x ∷ bytes in

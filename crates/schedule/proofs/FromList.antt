@@ -3,10 +3,10 @@ use Rattle.std.proofs.Common.{◌≡◌, ℕ, ◌+◌, ◌<◌, ◌≤◌, List,
 use Rattle.std.proofs.lemmas.List.Elements.{All-nil, All-head, All-tail, All-append}
 use Rattle.std.proofs.lemmas.List.{drop_at}
 use Rattle.std.proofs.lemmas.Bool.Decides.{nat_tests}
-use Rattle.schedule.specs.declared.order.Order.{Order}
-use Rattle.schedule.specs.declared.reader.Placed.{Placed}
-use Rattle.schedule.specs.Laws.{Bytes, ReadsBack}
-use Rattle.schedule.specs.Limits.{arm_limit, largest_arm}
+use Rattle.schedule.specs.declared.order_number.Order.{Order}
+use Rattle.schedule.specs.declared.parts.Placed.{Placed}
+use Rattle.schedule.specs.Laws.{IsBytes, ReadsBack}
+use Rattle.schedule.specs.FileLimits.{arm_limit, largest_arm}
 use Rattle.schedule.specs.Numbers.{groups}
 use Rattle.schedule.specs.Orders.{order_number, arm_of}
 use Rattle.schedule.specs.Reading.{arms_from, order_from, orders_from}
@@ -39,7 +39,7 @@ orders_read place count (o ∷ os) h =
     let others = orders_read (place + length first) (count + 1) os (near_rest o os h) in
     grind arith
 
-orders_bytes : (os : List Order) → Near os → Bytes (order_bytes os)
+orders_bytes : (os : List Order) → Near os → IsBytes (order_bytes os)
 orders_bytes [] h = All-nil (λ b. b < 256)
 orders_bytes (o ∷ os) h = All-append (λ b. b < 256) (groups (order_number o)) (order_bytes os) (groups_bytes (order_number o) (number_near o (near_first o os h))) (orders_bytes os (near_rest o os h))
 

@@ -4,11 +4,11 @@ use Rattle.std.specs.List.{All}
 use Rattle.std.proofs.lemmas.Bool.{cond_both, ltb-true}
 use Rattle.std.proofs.lemmas.Bool.Decides.{nat_tests}
 use Rattle.std.proofs.lemmas.List.Elements.{All-nil, All-cons, All-head}
-use Rattle.schedule.specs.declared.order.Order.{Order}
-use Rattle.schedule.specs.declared.order.Order.TheVariants.{Begin, Step, Leave}
+use Rattle.schedule.specs.declared.order_number.Order.{Order}
+use Rattle.schedule.specs.declared.order_number.Order.TheVariants.{Begin, Step, Leave}
 use Rattle.schedule.specs.declared.number.Number.{Number}
-use Rattle.schedule.specs.Limits.{largest_number, largest_arm}
-use Rattle.schedule.specs.Laws.{Bytes}
+use Rattle.schedule.specs.FileLimits.{largest_number, largest_arm}
+use Rattle.schedule.specs.Laws.{IsBytes}
 use Rattle.schedule.specs.Numbers.{groups, number_from}
 use Rattle.schedule.specs.Orders.{order_number, order_of, arm_of}
 use Rattle.schedule.proofs.Steps.{span}
@@ -24,18 +24,18 @@ number_of_groups place k (x ∷ rest) h = grind (arith, nat_tests)
 pub span_of_groups : (k : ℕ) (rest : List ℕ) → k ≤ largest_number → span (groups k ++ rest) ≡ length (groups k)
 span_of_groups k rest h = grind (arith, nat_tests)
 
-bytes_more : (b : ℕ) (more : List ℕ) → b < 256 → Bytes more → Bytes (b ∷ more)
+bytes_more : (b : ℕ) (more : List ℕ) → b < 256 → IsBytes more → IsBytes (b ∷ more)
 bytes_more b more h t = All-cons (λ x. x < 256) b more h t
 
-bytes_none : Bytes []
+bytes_none : IsBytes []
 bytes_none = All-nil (λ x. x < 256)
 
-first_byte : (b : ℕ) (more : List ℕ) → Bytes (b ∷ more) → b < 256
+first_byte : (b : ℕ) (more : List ℕ) → IsBytes (b ∷ more) → b < 256
 first_byte b more h = All-head (λ x. x < 256) b more h
 
-pub groups_bytes : (k : ℕ) → k ≤ largest_number → Bytes (groups k)
+pub groups_bytes : (k : ℕ) → k ≤ largest_number → IsBytes (groups k)
 groups_bytes k h =
-    cond_both (ltb k 128) _ _ Bytes
+    cond_both (ltb k 128) _ _ IsBytes
     (λ s. bytes_more k [] (omega (arith, ltb-true k 128 s)) bytes_none)
     (λ s. bytes_more (k % 128 + 128) ((k / 128) ∷ []) (omega arith) (bytes_more (k / 128) [] (omega arith) bytes_none))
 
@@ -68,7 +68,7 @@ pub record Grouped (bytes : List ℕ) (n : Number) : Type 0 where
   pub small : n.value ≤ largest_number
   pub are : bytes ≡ groups n.value ++ drop (span bytes) bytes
 
-pub groups_of_number : (place : ℕ) (bytes : List ℕ) (n : Number) → Bytes bytes → number_from place bytes ≡ Ok n → Grouped bytes n
+pub groups_of_number : (place : ℕ) (bytes : List ℕ) (n : Number) → IsBytes bytes → number_from place bytes ≡ Ok n → Grouped bytes n
 groups_of_number place [] n b e = absurd (grind arith)
 groups_of_number place (low ∷ []) n b e =
     record { small = grind (arith, nat_tests); are = grind (arith, nat_tests) }

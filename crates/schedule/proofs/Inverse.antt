@@ -4,16 +4,15 @@ use Rattle.std.proofs.lemmas.List.Elements.{All-from_get_or}
 use Rattle.std.proofs.lemmas.List.{take_at}
 use Rattle.std.proofs.lemmas.Bool.{le-leb, leb-true}
 use Rattle.std.proofs.lemmas.Bool.Decides.{nat_tests, Decides-by_and}
-use Rattle.schedule.specs.declared.order.Order.{Order}
-use Rattle.schedule.specs.declared.reader.Heading.{Heading}
+use Rattle.schedule.specs.declared.order_number.Order.{Order}
 use Rattle.schedule.specs.declared.writer.WriteRefusal.{WriteRefusal}
-use Rattle.schedule.specs.Laws.{bytes_of, Lawful, WritesLawful, OneFile, Inverse, WasRead, WasWritten}
-use Rattle.schedule.specs.Limits.{largest_number, largest_arm}
+use Rattle.schedule.specs.Laws.{bytes_of, IsLawful, WritesLawful, OneFile, Inverse, WasRead, WasWritten}
+use Rattle.schedule.specs.FileLimits.{largest_number, largest_arm}
+use Rattle.schedule.specs.Memory.{put_into}
 use Rattle.schedule.specs.Orders.{order_number, arm_of}
-use Rattle.schedule.specs.Reading.{contents, says, heading_of, read_memory}
-use Rattle.schedule.specs.Writing.{file_bytes, small_orders, file_of, length_of}
+use Rattle.schedule.specs.Reading.{Contents, contents, says, heading}
+use Rattle.schedule.specs.Writing.{file_bytes, are_small, file_of, length_of}
 use Rattle.schedule.proofs.Groups.{Near, number_near, near_number}
-use Rattle.schedule.proofs.Told.{told, said}
 use Rattle.schedule.proofs.FromList.{reads_back}
 use Rattle.schedule.proofs.FromFile.{reads_lawful}
 
@@ -21,8 +20,8 @@ pub one_file : OneFile
 one_file c l file b e = (reads_lawful file b c e).1
 
 -- the writer
-small_is_near : (os : List Order) → Decides (small_orders os) (Near os)
-small_is_near os = Decides-by_and (λ o. leb (order_number o) largest_number) (λ o. arm_of o ≤ largest_arm) small_orders each refl (λ _ _. refl) os
+small_is_near : (os : List Order) → Decides (are_small os) (Near os)
+small_is_near os = Decides-by_and (λ o. leb (order_number o) largest_number) (λ o. arm_of o ≤ largest_arm) are_small each refl (λ _ _. refl) os
   where
     each : (o : Order) → Decides (leb (order_number o) largest_number) (arm_of o ≤ largest_arm)
     each o = (λ t. near_number o (leb-true (order_number o) largest_number t), λ h. le-leb (order_number o) largest_number (number_near o h))
@@ -30,30 +29,29 @@ small_is_near os = Decides-by_and (λ o. leb (order_number o) largest_number) (�
 pub writes_lawful : WritesLawful
 writes_lawful c = (forth, back)
   where
-    d : Decides (small_orders c.orders) (Near c.orders)
+    d : Decides (are_small c.orders) (Near c.orders)
     d = small_is_near c.orders
 
-    forth : Lawful c → file_of c.arms c.orders ≡ Ok (bytes_of c)
+    forth : IsLawful c → file_of c.arms c.orders ≡ Ok (bytes_of c)
     forth l = let t = d.1 l.near_arms in grind (arith, nat_tests)
 
-    back : (file : List ℕ) → file_of c.arms c.orders ≡ Ok file → Lawful c × (file ≡ bytes_of c)
+    back : (file : List ℕ) → file_of c.arms c.orders ≡ Ok file → IsLawful c × (file ≡ bytes_of c)
     back file e =
-        let t : small_orders c.orders ≡ true = grind (arith, nat_tests) in
+        let t : are_small c.orders ≡ true = grind (arith, nat_tests) in
         (record { some_arms = grind (arith, nat_tests); few_arms = grind (arith, nat_tests); near_arms = d.0 t; short = grind (arith, nat_tests) }, grind (arith, nat_tests))
 
 pub inverse : Inverse
 inverse = record { writes_lawful = writes_lawful; reads_back = reads_back; reads_lawful = reads_lawful; one_file = one_file }
 
 -- one call of the reader
-pub was_read : (file : List ℕ) (memory out : List Order) (h : Heading) → ((i : ℕ) → get_or file i 0 < 256)
-    → Ok h ≡ heading_of (says file) → h.orders ≤ length memory → out ≡ read_memory (says file) memory → WasRead (Ok h) file out
-was_read file memory out h b e room m =
-    let s = said (says file) h e in
-    let os = told (says file) in
-    let is : out ≡ os ++ drop (length os) memory = grind (arith, nat_tests) in
-    let same : take h.orders out ≡ os = ap (take h.orders) is ∙ take_at os (drop (length os) memory) h.orders s.all in
-    subst (λ xs. Lawful (contents h.arms xs) × (file ≡ file_bytes h.arms xs)) (sym same)
-    (reads_lawful file (All-from_get_or (λ y. y < 256) file 0 (λ i l. b i)) (contents h.arms os) s.is)
+pub was_read : (file : List ℕ) (memory out : List Order) (c : Contents) → ((i : ℕ) → get_or file i 0 < 256) → says file ≡ Ok c
+    → length c.orders ≤ length memory → out ≡ put_into memory c.orders → WasRead (Ok (heading c)) file out
+was_read file memory out c b s room m =
+    let n = length c.orders in
+    let is : out ≡ c.orders ++ drop n memory = grind (arith, nat_tests) in
+    let same : take n out ≡ c.orders = ap (take n) is ∙ take_at c.orders (drop n memory) n refl in
+    subst (λ xs. IsLawful (contents c.arms xs) × (file ≡ file_bytes c.arms xs)) (sym same)
+    (reads_lawful file (All-from_get_or (λ y. y < 256) file 0 (λ i l. b i)) c s)
 
 -- one call of the writer
 pub was_written : (arms : ℕ) (os : List Order) (memory out : List ℕ) (size end : ℕ) → Ok size ≡ length_of (file_of arms os)
@@ -67,9 +65,9 @@ was_written arms os memory out size end w e m =
     (l, ap says begun ∙ (reads_back (contents arms os) l).1)
 
 -- a list is lawful if it has a file
-pub lawful_file : (arms : ℕ) (os : List Order) (r : Bool) → r ≡ is_ok (file_of arms os) → IsTrue r ↔ Lawful (contents arms os)
+pub lawful_file : (arms : ℕ) (os : List Order) (r : Bool) → r ≡ is_ok (file_of arms os) → IsTrue r ↔ IsLawful (contents arms os)
 lawful_file arms os r e = (λ h. there h (file_of arms os) refl, λ l. e ∙ ap is_ok ((writes_lawful (contents arms os)).0 l))
   where
-    there : r ≡ true → (x : Result (List ℕ) WriteRefusal) → file_of arms os ≡ x → Lawful (contents arms os)
+    there : r ≡ true → (x : Result (List ℕ) WriteRefusal) → file_of arms os ≡ x → IsLawful (contents arms os)
     there h (Ok file) f = ((writes_lawful (contents arms os)).1 file f).0
     there h (Err refusal) f = absurd (grind arith)

@@ -1,10 +1,11 @@
 -- One more order of a file.
-use Rattle.std.proofs.Common.{◌≡◌, ℕ, ◌+◌, ◌<◌, ◌≤◌, cond, ltb, List, [], ◌∷◌, length, drop, Some, None, Ok, Err, Option, Result, sym, refl, ap, ◌∙◌, arith, length-drop}
+use Rattle.std.proofs.Common.{◌≡◌, ℕ, ◌+◌, ◌<◌, ◌≤◌, cond, ltb, List, [], ◌∷◌, length, drop, Some, None, Ok, Err, Option, Result, IsOk, subst, sym, refl, ap, ◌∙◌, arith, length-drop}
+use Rattle.std.specs.Result.{result_unwrap_or}
 use Rattle.std.proofs.lemmas.List.{drop-drop}
 use Rattle.std.proofs.lemmas.Bool.Decides.{nat_tests}
-use Rattle.schedule.specs.declared.order.Order.{Order}
+use Rattle.schedule.specs.declared.order_number.Order.{Order}
 use Rattle.schedule.specs.declared.number.Number.{Number}
-use Rattle.schedule.specs.declared.reader.Placed.{Placed}
+use Rattle.schedule.specs.declared.parts.Placed.{Placed}
 use Rattle.schedule.specs.declared.fault.NumberFault.{NumberFault}
 use Rattle.schedule.specs.declared.fault.ScheduleFault.{ScheduleFault}
 use Rattle.schedule.specs.Numbers.{number_from}
@@ -88,3 +89,25 @@ module _ (file : List ℕ) (at count : ℕ) (p : Placed) (e : order_from at coun
       let h = order_ends at count (drop at file) p e in
       let l = length-drop at file in
       (omega arith, omega arith)
+
+abbrev orders_of : Result (List Order) ScheduleFault → List Order
+orders_of r = result_unwrap_or r []
+
+-- the orders from a place on, where they have no fault, begin with the one there
+module _ (file : List ℕ) (at count : ℕ) (sound : IsOk (orders_from at count (drop at file))) where
+  pub next_order : (p : Placed) → order_from at count (drop at file) ≡ Ok p
+      → IsOk (orders_from p.next (count + 1) (drop p.next file))
+      × (orders_of (orders_from at count (drop at file)) ≡ p.order ∷ orders_of (orders_from p.next (count + 1) (drop p.next file)))
+  next_order p e = by (orders_from p.next (count + 1) (drop p.next file)) (subst IsOk (step_at file at count p e) sound) (ap orders_of (step_at file at count p e))
+    where
+      by : (r : Result (List Order) ScheduleFault) → IsOk (preceded p.order r) → orders_of (orders_from at count (drop at file)) ≡ orders_of (preceded p.order r)
+          → IsOk r × (orders_of (orders_from at count (drop at file)) ≡ p.order ∷ orders_of r)
+      by (Ok os) s e = (refl, e)
+      by (Err f) s e = absurd (grind arith)
+
+  pub no_order_left : (f : ScheduleFault) → order_from at count (drop at file) ≡ Err f → orders_of (orders_from at count (drop at file)) ≡ []
+  no_order_left f e = by (drop at file) refl
+    where
+      by : (bytes : List ℕ) → drop at file ≡ bytes → orders_of (orders_from at count (drop at file)) ≡ []
+      by [] d = let k = orders_end at count in cc
+      by (b ∷ bytes) d = let k = orders_fault at count (drop at file) f (grind arith) e in absurd (grind arith)

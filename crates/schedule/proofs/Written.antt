@@ -2,8 +2,8 @@
 use Rattle.std.proofs.Common.{◌≡◌, ℕ, ◌+◌, ◌<◌, ◌≤◌, List, ◌++◌, length, get_or, take, drop, sym, ap, arith, length-append}
 use Rattle.std.proofs.lemmas.List.{take_at, drop-drop, drop_at}
 use Rattle.std.proofs.lemmas.List.Folds.{length-flat_map-take}
-use Rattle.schedule.specs.declared.order.Order.{Order}
-use Rattle.schedule.specs.declared.order.Order.TheVariants.{Begin}
+use Rattle.schedule.specs.declared.order_number.Order.{Order}
+use Rattle.schedule.specs.declared.order_number.Order.TheVariants.{Begin}
 use Rattle.schedule.specs.Numbers.{groups}
 use Rattle.schedule.specs.Orders.{order_number}
 use Rattle.schedule.specs.Writing.{file_bytes}

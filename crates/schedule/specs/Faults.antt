@@ -17,30 +17,21 @@ fault_number (Schedule ArmCount) = 14
 fault_number (Schedule (UnknownOrder place order)) = 15
 fault_number Full = 16
 
--- the first byte of the faulty number
+-- the place of the faulty number's first byte
 abbrev pub fault_place : PlayFault → ℕ
-fault_place LongFile = 0
-fault_place ShortMemory = 0
 fault_place (Schedule (Number (Cut place) order)) = place
 fault_place (Schedule (Number (Padded place) order)) = place
 fault_place (Schedule (Number (Large place) order)) = place
-fault_place (Schedule ArmCount) = 0
 fault_place (Schedule (UnknownOrder place order)) = place
-fault_place Full = 0
+fault_place _ = 0
 
--- the count of the faulty order, the arm count being 0
+-- the count of the faulty number, the arm count being 0
 abbrev pub fault_order : PlayFault → ℕ
-fault_order LongFile = 0
-fault_order ShortMemory = 0
 fault_order (Schedule (Number fault order)) = order
-fault_order (Schedule ArmCount) = 0
 fault_order (Schedule (UnknownOrder place order)) = order
-fault_order Full = 0
+fault_order _ = 0
 
 abbrev pub fault_layer : PlayFault → Layer
-fault_layer LongFile = L.Play
-fault_layer ShortMemory = L.Play
 fault_layer (Schedule (Number fault order)) = L.Number
-fault_layer (Schedule ArmCount) = L.Schedule
-fault_layer (Schedule (UnknownOrder place order)) = L.Schedule
-fault_layer Full = L.Play
+fault_layer (Schedule _) = L.Schedule
+fault_layer _ = L.Play

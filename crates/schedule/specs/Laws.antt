@@ -1,10 +1,10 @@
 -- Reader and writer are inverse, both ways.
 use Rattle.std.specs.Prelude.{◌≡◌, ℕ, ◌<◌, ◌≤◌, All, List, length, take, Ok, Err, Result}
-use Rattle.schedule.specs.declared.order.Order.{Order}
-use Rattle.schedule.specs.declared.reader.Heading.{Heading}
+use Rattle.schedule.specs.declared.order_number.Order.{Order}
+use Rattle.schedule.specs.declared.schedule_file.Heading.{Heading}
 use Rattle.schedule.specs.declared.fault.PlayFault.{PlayFault}
 use Rattle.schedule.specs.declared.writer.WriteRefusal.{WriteRefusal}
-use Rattle.schedule.specs.Limits.{arm_limit, file_limit, largest_arm}
+use Rattle.schedule.specs.FileLimits.{arm_limit, file_limit, largest_arm}
 use Rattle.schedule.specs.Orders.{arm_of}
 use Rattle.schedule.specs.Reading.{Contents, says}
 use Rattle.schedule.specs.Writing.{file_bytes, file_of}
@@ -13,34 +13,34 @@ abbrev pub bytes_of : Contents → List ℕ
 bytes_of c = file_bytes c.arms c.orders
 
 -- a list is lawful if its arm count is 1 to 32, no arm is too far, and its file is not too long
-pub record Lawful (c : Contents) : Type 0 where
+pub record IsLawful (c : Contents) : Type 0 where
   pub some_arms : 1 ≤ c.arms
   pub few_arms : c.arms ≤ arm_limit
   pub near_arms : All (λ o. arm_of o ≤ largest_arm) c.orders
   pub short : length (bytes_of c) ≤ file_limit
 
 -- a byte of a list is any number: that each is below 256 is said where it matters
-abbrev pub Bytes : List ℕ → Type 0
-Bytes file = All (λ b. b < 256) file
+abbrev pub IsBytes : List ℕ → Type 0
+IsBytes file = All (λ b. b < 256) file
 
 -- the writer has a file for the lawful lists, and for no other
 abbrev pub WritesLawful : Type 0
 WritesLawful =
     (c : Contents)
-    → (Lawful c → file_of c.arms c.orders ≡ Ok (bytes_of c))
-    × ((file : List ℕ) → file_of c.arms c.orders ≡ Ok file → Lawful c × (file ≡ bytes_of c))
+    → (IsLawful c → file_of c.arms c.orders ≡ Ok (bytes_of c))
+    × ((file : List ℕ) → file_of c.arms c.orders ≡ Ok file → IsLawful c × (file ≡ bytes_of c))
 
 -- that file reads back as the list
 abbrev pub ReadsBack : Type 0
-ReadsBack = (c : Contents) → Lawful c → Bytes (bytes_of c) × (says (bytes_of c) ≡ Ok c)
+ReadsBack = (c : Contents) → IsLawful c → IsBytes (bytes_of c) × (says (bytes_of c) ≡ Ok c)
 
 -- no other file does
 abbrev pub OneFile : Type 0
-OneFile = (c : Contents) → Lawful c → (file : List ℕ) → Bytes file → says file ≡ Ok c → file ≡ bytes_of c
+OneFile = (c : Contents) → IsLawful c → (file : List ℕ) → IsBytes file → says file ≡ Ok c → file ≡ bytes_of c
 
 -- what reads well is lawful, and is the file of what it reads as
 abbrev pub ReadsLawful : Type 0
-ReadsLawful = (file : List ℕ) → Bytes file → (c : Contents) → says file ≡ Ok c → Lawful c × (file ≡ bytes_of c)
+ReadsLawful = (file : List ℕ) → IsBytes file → (c : Contents) → says file ≡ Ok c → IsLawful c × (file ≡ bytes_of c)
 
 pub record Inverse : Type 0 where
   pub writes_lawful : WritesLawful
@@ -53,10 +53,10 @@ abbrev pub listed : Heading → List Order → Contents
 listed h memory = record { arms = h.arms; orders = take h.orders memory }
 
 abbrev pub WasRead : Result Heading PlayFault → List ℕ → List Order → Type 0
-WasRead (Ok h) file memory = Lawful (listed h memory) × (file ≡ bytes_of (listed h memory))
+WasRead (Ok h) file memory = IsLawful (listed h memory) × (file ≡ bytes_of (listed h memory))
 WasRead (Err fault) file memory = Unit {0}
 
 -- what was written into the memory is lawful, and reads back
 abbrev pub WasWritten : Result ℕ WriteRefusal → Contents → List ℕ → Type 0
-WasWritten (Ok n) c memory = Lawful c × (says (take n memory) ≡ Ok c)
+WasWritten (Ok n) c memory = IsLawful c × (says (take n memory) ≡ Ok c)
 WasWritten (Err refusal) c memory = Unit {0}

@@ -1,4 +1,4 @@
-pub mod Limits
+pub mod FileLimits
 pub mod Orders
 pub mod Faults
 pub mod Numbers

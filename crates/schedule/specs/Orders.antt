@@ -1,7 +1,7 @@
 -- An order and its number: four times the arm, and the kind.
 use Rattle.std.specs.Prelude.{ℕ, ◌+◌, ◌*◌, ◌/◌, ◌%◌, if◌then◌else◌, Some, None, Option, ◌==◌}
-use Rattle.schedule.specs.declared.order.Order.{Order}
-use Rattle.schedule.specs.declared.order.Order.TheVariants.{Begin, Step, Leave}
+use Rattle.schedule.specs.declared.order_number.Order.{Order}
+use Rattle.schedule.specs.declared.order_number.Order.TheVariants.{Begin, Step, Leave}
 
 abbrev pub order_number : Order → ℕ
 order_number (Begin arm) = 4 * arm

@@ -1,16 +1,16 @@
 -- What a file says: its arm count and its orders, or its first fault.
 use Rattle.std.specs.Prelude.{ℕ, ◌+◌, if◌then◌else◌, List, [], ◌∷◌, length, drop, Some, None, Ok, Err, Option, Result, nat_le, nat_lt}
-use Rattle.schedule.specs.declared.order.Order.{Order}
+use Rattle.schedule.specs.declared.order_number.Order.{Order}
 use Rattle.schedule.specs.declared.number.Number.{Number}
-use Rattle.schedule.specs.declared.reader.Heading.{Heading}
-use Rattle.schedule.specs.declared.reader.Placed.{Placed}
+use Rattle.schedule.specs.declared.schedule_file.Heading.{Heading}
+use Rattle.schedule.specs.declared.parts.Placed.{Placed}
 use Rattle.schedule.specs.declared.fault.NumberFault.{NumberFault}
 use Rattle.schedule.specs.declared.fault.Counted.{Counted}
 use Rattle.schedule.specs.declared.fault.ScheduleFault.{ScheduleFault}
 use Rattle.schedule.specs.declared.fault.ScheduleFault.TheVariants as S
 use Rattle.schedule.specs.declared.fault.PlayFault.{PlayFault}
 use Rattle.schedule.specs.declared.fault.PlayFault.TheVariants.{LongFile, Schedule, Full}
-use Rattle.schedule.specs.Limits.{arm_count, file_limit}
+use Rattle.schedule.specs.FileLimits.{is_arm_count, file_limit}
 use Rattle.schedule.specs.Memory.{put_into}
 use Rattle.schedule.specs.Numbers.{number_from}
 use Rattle.schedule.specs.Orders.{order_of}
@@ -47,7 +47,7 @@ numbered place count bytes f = and_then (in_schedule (with_count count (number_f
 
 -- the first number is the arm count
 abbrev pub arms_from : List ℕ → Result Number ScheduleFault
-arms_from bytes = numbered 0 0 bytes (λ n. if arm_count n.value then Ok n else Err S.ArmCount)
+arms_from bytes = numbered 0 0 bytes (λ n. if is_arm_count n.value then Ok n else Err S.ArmCount)
 
 -- each further one is an order, of a kind that is known
 abbrev pub known : ℕ → ℕ → ℕ → Option Order → Result Placed ScheduleFault
@@ -79,11 +79,16 @@ abbrev pub contents_from : Number → List ℕ → Result Contents ScheduleFault
 contents_from n bytes =
     and_then (orders_from n.next 1 (drop n.next bytes)) (λ os. Ok (contents n.value os))
 
+-- an arm count and the orders after it, or the first fault among them
+abbrev pub schedule_from : List ℕ → Result Contents ScheduleFault
+schedule_from bytes = and_then (arms_from bytes) (λ n. contents_from n bytes)
+
+-- a file that is not too long
+abbrev pub short_file : List ℕ → Result (List ℕ) PlayFault
+short_file bytes = if nat_le (length bytes) file_limit then Ok bytes else Err LongFile
+
 abbrev pub says : List ℕ → Result Contents PlayFault
-says bytes =
-    if nat_le (length bytes) file_limit
-    then in_play (and_then (arms_from bytes) (λ n. contents_from n bytes))
-    else Err LongFile
+says bytes = and_then (short_file bytes) (λ file. in_play (schedule_from file))
 
 abbrev pub heading : Contents → Heading
 heading c = record { arms = c.arms; orders = length c.orders }

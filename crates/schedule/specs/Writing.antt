@@ -1,19 +1,19 @@
 -- The file of an arm count and a list of orders, or why it is refused.
 use Rattle.std.specs.Prelude.{ℕ, Bool, if◌then◌else◌, List, ◌++◌, length, Ok, Err, Result, nat_le}
 use Rattle.std.specs.List.{flat_map, list_all}
-use Rattle.schedule.specs.declared.order.Order.{Order}
+use Rattle.schedule.specs.declared.order_number.Order.{Order}
 use Rattle.schedule.specs.declared.writer.WriteRefusal.{WriteRefusal}
 use Rattle.schedule.specs.declared.writer.WriteRefusal.TheVariants.{ArmCount, Large, LongFile, Full}
-use Rattle.schedule.specs.Limits.{arm_count, file_limit, largest_number}
+use Rattle.schedule.specs.FileLimits.{is_arm_count, file_limit, largest_number}
 use Rattle.schedule.specs.Memory.{put_into}
 use Rattle.schedule.specs.Numbers.{groups}
 use Rattle.schedule.specs.Orders.{order_number}
 
-abbrev pub refusal_number : WriteRefusal → ℕ
-refusal_number ArmCount = 14
-refusal_number Large = 13
-refusal_number LongFile = 9
-refusal_number Full = 16
+abbrev pub write_refusal_number : WriteRefusal → ℕ
+write_refusal_number ArmCount = 14
+write_refusal_number Large = 13
+write_refusal_number LongFile = 9
+write_refusal_number Full = 16
 
 abbrev pub order_bytes : List Order → List ℕ
 order_bytes orders = flat_map (λ o. groups (order_number o)) orders
@@ -22,8 +22,8 @@ abbrev pub file_bytes : ℕ → List Order → List ℕ
 file_bytes arms orders = groups arms ++ order_bytes orders
 
 -- no order's number is too large
-abbrev pub small_orders : List Order → Bool
-small_orders orders = list_all (λ o. nat_le (order_number o) largest_number) orders
+abbrev pub are_small : List Order → Bool
+are_small orders = list_all (λ o. nat_le (order_number o) largest_number) orders
 
 abbrev pub if_short : List ℕ → Result (List ℕ) WriteRefusal
 if_short file = if nat_le (length file) file_limit then Ok file else Err LongFile
@@ -31,8 +31,8 @@ if_short file = if nat_le (length file) file_limit then Ok file else Err LongFil
 -- the file, or the refusal that comes first
 abbrev pub file_of : ℕ → List Order → Result (List ℕ) WriteRefusal
 file_of arms orders =
-    if arm_count arms
-    then (if small_orders orders then if_short (file_bytes arms orders) else Err Large)
+    if is_arm_count arms
+    then (if are_small orders then if_short (file_bytes arms orders) else Err Large)
     else Err ArmCount
 
 abbrev pub length_of : Result (List ℕ) WriteRefusal → Result ℕ WriteRefusal

@@ -3,33 +3,54 @@ ghost use Rattle.schedule.specs.declared.fault.ScheduleFault.TheVariants as S;
 ghost use Rattle.schedule.specs.declared.fault.PlayFault.TheVariants as P;
 ghost use Rattle.schedule.specs.Faults.{fault_number, fault_place, fault_order, fault_layer};
 
-// What is wrong with a number, and the place of its first byte.
-#[derive(Clone, Copy, Debug, PartialEq, Eq)]
+use thiserror::Error;
+
+/// What is wrong with a number. The place is that of its first byte, the file's first being 0.
+#[derive(Clone, Copy, Debug, PartialEq, Eq, Error)]
 pub enum NumberFault {
+    /// The file ends before the number does.
+    #[error("cut")]
     Cut { place: usize },
+    /// The second group is 0.
+    #[error("padded")]
     Padded { place: usize },
+    /// The second group says that more follow.
+    #[error("large")]
     Large { place: usize },
 }
 
-// What is wrong with a schedule: with a number of it, counted from the arm count as 0,
-// with the arm count, or with the kind of an order.
-#[derive(Clone, Copy, Debug, PartialEq, Eq)]
+/// What is wrong with a schedule. The order is the count of the faulty number, the arm count being 0.
+#[derive(Clone, Copy, Debug, PartialEq, Eq, Error)]
 pub enum ScheduleFault {
+    /// A number is faulty.
+    #[error("{fault}")]
     Number { fault: NumberFault, order: usize },
+    /// The arm count is 0 or above 32.
+    #[error("arm count")]
     ArmCount,
+    /// An order's number has kind 3.
+    #[error("unknown order")]
     UnknownOrder { place: usize, order: usize },
 }
 
-// Why a file is not read or played.
-#[derive(Clone, Copy, Debug, PartialEq, Eq)]
+/// Why a file is not read or played.
+#[derive(Clone, Copy, Debug, PartialEq, Eq, Error)]
 pub enum PlayFault {
+    /// The file has more than 60,000 bytes.
+    #[error("long file")]
     LongFile,
+    /// The memory for the report has fewer than 1,024 bytes.
+    #[error("short memory")]
     ShortMemory,
+    /// The file is faulty.
+    #[error(transparent)]
     Schedule(ScheduleFault),
+    /// The reader's memory is for fewer orders than the file has.
+    #[error("full")]
     Full,
 }
 
-// The layer that a fault arises in.
+/// The layer that a fault arises in.
 #[derive(Clone, Copy, Debug, PartialEq, Eq)]
 pub enum Layer {
     Number,
@@ -64,7 +85,7 @@ impl From<ScheduleFault> for PlayFault {
 }
 
 impl PlayFault {
-    // The number that a fault is known by.
+    /// The number that a fault is known by, 9 to 16.
     pub fn number(self) -> u8
         ensures { result ≡ fault_number self }
     {
@@ -82,7 +103,7 @@ impl PlayFault {
         }
     }
 
-    // The first byte of the faulty number, or 0.
+    /// The place of the faulty number's first byte, or 0.
     pub fn place(self) -> usize
         ensures { result ≡ fault_place self }
     {
@@ -97,7 +118,7 @@ impl PlayFault {
         }
     }
 
-    // The count of the faulty number's order, or 0.
+    /// The count of the faulty number, the arm count being 0, or 0.
     pub fn order(self) -> usize
         ensures { result ≡ fault_order self }
     {
@@ -109,7 +130,7 @@ impl PlayFault {
         }
     }
 
-    // The layer that found the fault.
+    /// The layer that found the fault.
     pub fn layer(self) -> Layer
         ensures { result ≡ fault_layer self }
     {

@@ -1,9 +1,29 @@
 //! Schedule files: numbers, orders, the faults of both, and the reader and the writer.
 #![tactic(auto)]
 
-pub mod fault;
-pub mod limit;
+// Faults, and the layer that each arises in.
+mod fault;
+// The limits of a file.
+mod limit;
+// Numbers in groups of seven bits.
 pub mod number;
-pub mod order;
-pub mod reader;
-pub mod writer;
+// The orders of a file one after another.
+mod order_iter;
+// An order and its number.
+mod order_number;
+// The arm count of a file, and the order at a place of it.
+pub mod parts;
+// A file made into orders.
+mod reader;
+// A file on its way to a schedule.
+mod schedule_file;
+// Orders made into a file.
+mod writer;
+
+pub use fault::{Layer, NumberFault, PlayFault, ScheduleFault};
+pub use limit::{ARM_LIMIT, FILE_LIMIT, LARGEST_NUMBER};
+pub use order_iter::Orders;
+pub use order_number::Order;
+pub use reader::{check, read};
+pub use schedule_file::{File, Heading, Schedule};
+pub use writer::{WriteRefusal, is_lawful, write};

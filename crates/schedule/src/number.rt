@@ -1,5 +1,5 @@
 ghost use Rattle.std.specs.Prelude.{◌≡◌, ◌+◌, ◌≤◌, ◌++◌, length, take, drop};
-ghost use Rattle.schedule.specs.Limits.{largest_number};
+ghost use Rattle.schedule.specs.FileLimits.{largest_number};
 ghost use Rattle.schedule.specs.Numbers.{number_from, groups};
 
 use crate::fault::NumberFault;
@@ -10,14 +10,14 @@ const GROUP: u32 = 128;
 // The top bit of a byte, which says that another group follows.
 const MORE: u8 = 128;
 
-// A number of a file, and the place after it.
+/// A number of a file, at most 16,383, and the place after it.
 #[derive(Clone, Copy, Debug, PartialEq, Eq)]
 pub struct Number {
     pub value: u16,
     pub next: usize,
 }
 
-// The number that begins at a place.
+/// The number that begins at a place. It is cut where the place is at or past the end.
 pub fn number_at(file: &[u8], at: usize) -> Result<Number, NumberFault>
     ensures { result ≡ number_from at (drop at file.now) }
 {

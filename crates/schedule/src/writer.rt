@@ -1,25 +1,34 @@
 ghost use Rattle.std.specs.Prelude.{◌≡◌, ◌≤◌, ◌++◌, ◌↔◌, length, drop, is_ok, Ok, IsTrue};
-ghost use Rattle.schedule.specs.Laws.{Inverse, Lawful, WasWritten};
+ghost use Rattle.schedule.specs.Laws.{Inverse, IsLawful, WasWritten};
 ghost use Rattle.schedule.specs.Reading.{contents};
-ghost use Rattle.schedule.specs.Writing.{refusal_number, file_bytes, file_of, length_of, write_answer, write_memory};
+ghost use Rattle.schedule.specs.Writing.{write_refusal_number, file_bytes, file_of, length_of, write_answer, write_memory};
 
 use crate::limit::{ARM_LIMIT, FILE_LIMIT, LARGEST_NUMBER};
 use crate::number::{put, width};
-use crate::order::Order;
+use crate::order_number::Order;
+use thiserror::Error;
 
-// Why a list of orders is not written.
-#[derive(Clone, Copy, Debug, PartialEq, Eq)]
+/// Why a list of orders is not written.
+#[derive(Clone, Copy, Debug, PartialEq, Eq, Error)]
 pub enum WriteRefusal {
+    /// The arm count is 0 or above 32.
+    #[error("arm count")]
     ArmCount,
+    /// An order's number is above 16,383.
+    #[error("large")]
     Large,
+    /// The file would have more than 60,000 bytes.
+    #[error("long file")]
     LongFile,
+    /// The memory is for fewer bytes than the file has.
+    #[error("full")]
     Full,
 }
 
 impl WriteRefusal {
-    // The number that a refusal is known by.
+    /// The number that a refusal is known by: 9, 13, 14 or 16.
     pub fn number(self) -> u8
-        ensures { result ≡ refusal_number self }
+        ensures { result ≡ write_refusal_number self }
     {
         match self {
             WriteRefusal::ArmCount => 14,
@@ -38,7 +47,7 @@ fn measure(arms: usize, orders: &[Order]) -> Result<usize, WriteRefusal>
         return Err(WriteRefusal::ArmCount);
     }
     let mut size = width(arms as u32);
-    for (i, order) in orders.iter().enumerate() {
+    for order in orders {
         let number = order.number();
         if number > LARGEST_NUMBER {
             return Err(WriteRefusal::Large);
@@ -59,14 +68,14 @@ fn fill(arms: usize, orders: &[Order], out: &mut [u8]) -> usize
     ensures after { out.new ≡ file_bytes arms orders.now ++ drop (length (file_bytes arms orders.now)) out.old }
 {
     let mut at = put(out, 0, arms as u32);
-    for (i, order) in orders.iter().enumerate() {
+    for order in orders {
         at = put(out, at, order.number());
     }
     at
 }
 
-// Writes the file of a list at the start of the memory, and answers its length.
-// A refusal leaves the memory as it was.
+/// Writes the file of a list at the start of the memory, and answers its length.
+/// A refusal leaves the memory as it was.
 pub fn write(arms: usize, orders: &[Order], out: &mut [u8]) -> Result<usize, WriteRefusal>
     ensures answer { result ≡ write_answer arms orders.now (length out.old) }
     ensures memory { out.new ≡ write_memory arms orders.now out.old }
@@ -86,9 +95,9 @@ fn has_file(arms: usize, orders: &[Order]) -> bool
     measure(arms, orders).is_ok()
 }
 
-// Whether a list is lawful. Those lists are what the writer writes and the reader reads, and the two are inverse.
+/// Whether a list is lawful. Those lists are what the writer writes and the reader reads, and the two are inverse.
 pub fn is_lawful(arms: usize, orders: &[Order]) -> bool
-    ensures answer { IsTrue result ↔ Lawful (contents arms orders.now) }
+    ensures answer { IsTrue result ↔ IsLawful (contents arms orders.now) }
     ensures laws { Inverse }
 {
     has_file(arms, orders)

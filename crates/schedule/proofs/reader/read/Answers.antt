@@ -1,13 +1,12 @@
-use Rattle.std.proofs.Common.{sym, ap, arith}
-use Rattle.schedule.specs.Reading.{says, read_memory}
+use Rattle.std.proofs.Common.{◌≡◌, Ok, arith}
+use Rattle.std.proofs.lemmas.Grind.{common_steps}
+use Rattle.schedule.specs.Reading.{says}
 use Rattle.schedule.proofs.Inverse.{was_read}
-use Rattle.schedule.proofs.Told.{refused}
 use Rattle.schedule.proofs.reader.read.Goals as goal
-
-pub returns-in_err-heading-clause-memory : goal.returns-in_err-heading-clause-memory
-returns-in_err-heading-clause-memory c =
-    sym (ap (λ r. read_memory r c.args.orders.now) (refused (says c.args.file.now) c.in_err-heading.field-0.0 c.in_err-heading.ensures))
 
 pub returns-clause-inverse : goal.returns-clause-inverse
 returns-clause-inverse c =
-    was_read c.args.file.now c.args.orders.now c.put_orders.new.orders c.in_ok-heading.heading (λ i. omega (arith, c.type_inv.file i)) c.in_ok-heading.ensures (omega arith) c.put_orders.ensures
+    let all = c.in_ok-schedule.schedule in
+    let read : says c.args.file.now ≡ Ok all = grind (arith, common_steps) in
+    rw c.heading-heading.ensures
+    (was_read c.args.file.now c.args.orders.now c.put_orders.new.memory all (λ i. omega (arith, c.type_inv.file i)) read (grind arith) c.put_orders.ensures)

@@ -1,7 +1,7 @@
 ghost use Rattle.std.specs.Prelude.{◌≡◌};
 ghost use Rattle.schedule.specs.Orders.{order_number, order_of};
 
-// What an arm is to do.
+/// What an arm is to do. The arm may be any number: a file has arms up to 4,095, and a gate refuses those that it has not.
 #[derive(Clone, Copy, Debug, PartialEq, Eq)]
 pub enum Order {
     Begin(u16),
@@ -10,7 +10,7 @@ pub enum Order {
 }
 
 impl Order {
-    // Four times the arm, and the kind.
+    /// Four times the arm, and the kind.
     pub fn number(self) -> u32
         ensures { result ≡ order_number self }
     {
@@ -21,7 +21,7 @@ impl Order {
         }
     }
 
-    // The order that has this number; none has kind 3.
+    /// The order that has this number; none has kind 3.
     pub fn from_number(number: u16) -> Option<Order>
         ensures { result ≡ order_of number }
     {

@@ -1,0 +1,66 @@
+ghost use Rattle.std.specs.Prelude.{◌≡◌, ◌≤◌, [], drop, IsOk};
+ghost use Rattle.std.specs.Result.{result_unwrap_or};
+ghost use Rattle.std.specs.Iterator.{YieldsFirst, item_count};
+ghost use Rattle.schedule.specs.Reading.{orders_from};
+
+use crate::order_number::Order;
+use crate::parts::order_at;
+use std::marker::Model;
+
+/// The orders of a schedule that are left, in the order of its file.
+#[derive(Drop)]
+pub struct Orders<'a> {
+    file: &'a [u8],
+    at: usize,
+    count: usize,
+}
+
+impl<'a> Model for Orders<'a> {
+    ghost use Rattle.std.specs.Prelude.{◌≤◌, List, [], drop, IsOk};
+    ghost use Rattle.std.specs.Result.{result_unwrap_or};
+    ghost use Rattle.schedule.specs.declared.order_number.Order.{Order};
+    ghost use Rattle.schedule.specs.Reading.{orders_from};
+
+    ghost Value = { List Order };
+
+    ghost view = { λ o. result_unwrap_or (orders_from o.at o.count (drop o.at o.file.now)) [] };
+
+    ghost invariant = { λ o. IsOk (orders_from o.at o.count (drop o.at o.file.now)) × (o.count ≤ o.at) };
+}
+
+impl<'a> Orders<'a> {
+    // The orders from a place to the end of a file, which has no fault from there on.
+    pub(crate) fn new(file: &'a [u8], at: usize, count: usize) -> Orders<'a>
+        requires sound { IsOk (orders_from at count (drop at file.now)) }
+        requires counted { count ≤ at }
+        ensures { result ≡ result_unwrap_or (orders_from at count (drop at file.now)) [] }
+    {
+        Orders { file, at, count }
+    }
+
+    // The same orders once more.
+    pub(crate) fn again(&self) -> Orders<'a>
+        ensures { result ≡ self.now }
+    {
+        Orders {
+            file: self.file,
+            at: self.at,
+            count: self.count,
+        }
+    }
+}
+
+impl<'a> Iterator for Orders<'a> {
+    type Item = Order;
+
+    ghost next_gives = { YieldsFirst (λ rest. rest) };
+
+    ghost remaining = { item_count (λ rest. rest) };
+
+    fn next(&mut self) -> Option<Order> {
+        let placed = order_at(self.file, self.at, self.count).ok()?;
+        self.at = placed.next;
+        self.count += 1;
+        Some(placed.order)
+    }
+}
