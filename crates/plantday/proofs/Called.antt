@@ -5,7 +5,7 @@ use Rattle.door.specs.Law.{Fair}
 use Rattle.door.specs.States.{State, made}
 use Rattle.door.specs.declared.call.Call.{Call}
 use Rattle.door.proofs.Fairness.{fair}
-use Rattle.door.proofs.machine.Reached.{run_append}
+use Rattle.door.proofs.machine.Reached.{run_append, run_n}
 use Rattle.plantday.specs.Day.{Called, FairDay}
 
 pub once : {s t : State} (c : Call) → t ≡ after s c → Called s t
@@ -20,3 +20,7 @@ pub fair_after : (high number wanted : ℕ) (regs : List ℕ) {t : State} → Ca
 fair_after high number wanted regs {t} a =
     let start = made high number wanted regs in
     (a.0, a.1, subst (Fair start a.0) (sym a.1) (fair high number wanted regs a.0))
+
+-- calls leave the arm count as it is
+pub n_stays : {s t : State} → Called s t → t.n ≡ s.n
+n_stays {s} a = ap (λ x. x.n) a.1 ∙ run_n a.0 s

@@ -1,15 +1,12 @@
 -- What a day comes to for each arm, and how its rounds are counted.
-use Rattle.std.specs.Prelude.{ℕ, ◌+◌, ◌-◌, ◌^◌, min, max, Bool, false, if◌then◌else◌, not, List, map, replicate, is_some, Ok, Err, Result, nat_lt, slice_index, slice_set}
+use Rattle.std.specs.Prelude.{ℕ, ◌+◌, ◌-◌, ◌^◌, min, max, Bool, false, if◌then◌else◌, not, List, map, replicate, slice_index, slice_set}
 use Rattle.std.specs.List.{list_any, range_with_len}
-use Rattle.door.specs.Calls.{refusal_of}
 use Rattle.door.specs.History.{is_in}
-use Rattle.door.specs.States.{State, is_arm}
+use Rattle.door.specs.States.{State, is_arm, arm_at}
 use Rattle.door.specs.Tallies.{same_phase}
-use Rattle.door.specs.declared.call.Call.TheVariants.{Admit as admit}
 use Rattle.door.specs.declared.position.Phase.{Phase}
 use Rattle.door.specs.declared.position.Phase.TheVariants as P
-use Rattle.door.specs.declared.refusal.Refusal.{Refusal}
-use Rattle.gate.specs.Answers.{most_answer}
+use Rattle.gate.specs.Answers.{largest_count}
 use Rattle.plantday.specs.declared.record.Record.{Record}
 
 -- how many arms the plant has
@@ -66,29 +63,18 @@ with_move s k r =
     let left = slice_set r.due k false in
     (if some_due left then with_round left r.rounds r else with_round (map (is_busy s) (range_with_len 0 plant_arms)) (more r.rounds) r)
 
--- what concerns an arm that the day does not have changes nothing
-abbrev pub of_arm : ℕ → Record → Record → Record
-of_arm k new old = if nat_lt k plant_arms then new else old
-
--- a reading of arm k + 1 was delivered, and the arm left
+-- arm k + 1 was inside, and its pass not out: its reading was delivered, and it left; the gate is s then
 abbrev pub with_leave : State → ℕ → Record → Record
-with_leave s k r =
-    let counted = of_arm k (with_delivery k r) r in
-    of_arm k (with_move s k counted) counted
+with_leave s k r = with_move s k (with_delivery k r)
 
--- arm i, arm k + 1 of the record, was to carry its reading, from gate s on; t is the gate then
-abbrev pub carried : State → State → ℕ → ℕ → Record → Record
-carried s t i k r = if is_some (refusal_of s (admit i)) then r else with_leave t k r
+-- the largest count in the row of arm k + 1
+abbrev pub most_past : State → ℕ → ℕ
+most_past s k = largest_count (arm_at s (k + 1)).row s.n
 
--- arm k + 1 went inside, and what most_passed answered of it
-abbrev pub with_answer : ℕ → Result ℕ Refusal → Record → Record
-with_answer k (Ok most) r = of_arm k (with_entry k most r) r
-with_answer k (Err refusal) r = r
-
--- arm k + 1 stepped from one phase to another
+-- arm k + 1 stepped from one phase to another; the gate is s then
 abbrev pub noted : State → ℕ → Phase → Phase → Record → Record
 noted s k P.I to r = r
-noted s k P.D to r = if same_phase to P.W then of_arm k (with_wait k r) r else r
-noted s k P.W to r = if same_phase to P.F then with_answer k (most_answer s (k + 1)) r else r
+noted s k P.D to r = if same_phase to P.W then with_wait k r else r
+noted s k P.W to r = if same_phase to P.F then with_entry k (most_past s k) r else r
 noted s k P.F to r = r
 noted s k P.X to r = r

@@ -2,11 +2,14 @@
 //! It prints for each arm how many readings were delivered, the most that it was passed, and the longest wait in rounds.
 #![tactic(auto)]
 
-ghost use Rattle.std.specs.Prelude.{◌≡◌, ◌<◌};
+ghost use Rattle.std.specs.Prelude.{◌≡◌, ◌+◌, ◌<◌, length, None};
+ghost use Rattle.door.specs.Calls.{refusal_of};
+ghost use Rattle.door.specs.Making.{arms_for};
 ghost use Rattle.door.specs.States.{made};
+ghost use Rattle.door.specs.declared.call.Call.TheVariants.{Admit};
 ghost use Rattle.gate.specs.Whole.{whole};
 ghost use Rattle.plantday.specs.Day.{Called, FairDay};
-ghost use Rattle.plantday.specs.Records.{plant_arms, carried, noted};
+ghost use Rattle.plantday.specs.Records.{plant_arms, with_leave, noted};
 
 mod dice;
 mod record;
@@ -44,14 +47,14 @@ fn pick(dice: &mut Dice) -> usize
     }
 }
 
-// Carries a reading of an arm inside into the table, and lets the arm go.
-fn deliver<B: Bank>(gate: &mut Gate<B>, arm: usize, k: usize, record: &mut Record)
+// Carries a reading of arm k + 1, which is inside, into the table, and lets the arm go.
+fn deliver<B: Bank>(gate: &mut Gate<B>, k: usize, record: &mut Record)
+    requires arm { k < plant_arms }
+    requires inside { refusal_of (whole gate.old) (Admit (k + 1)) ≡ None }
     ensures calls { Called (whole gate.old) (whole gate.new) }
-    ensures noted { «record».new ≡ carried (whole gate.old) (whole gate.new) arm k «record».old }
+    ensures noted { «record».new ≡ with_leave (whole gate.new) k «record».old }
 {
-    let Ok(pass) = gate.admit(arm) else {
-        return;
-    };
+    let pass = gate.admit(k + 1).unwrap();
     let (pass, known) = gate.confirm(pass);
     if known {
         record.deliver(k);
@@ -62,46 +65,46 @@ fn deliver<B: Bank>(gate: &mut Gate<B>, arm: usize, k: usize, record: &mut Recor
 
 // Notes that arm k + 1 stepped from one phase to another.
 fn note<B: Bank>(gate: &Gate<B>, k: usize, from: Phase, to: Phase, record: &mut Record)
-    requires { k < plant_arms }
+    requires arm { k < plant_arms }
+    requires arms { gate.now.n ≡ plant_arms }
     ensures { «record».new ≡ noted (whole gate.now) k from to «record».old }
 {
     match (from, to) {
         (Phase::D, Phase::W) => record.waits(k),
-        (Phase::W, Phase::F) => {
-            if let Ok(most) = gate.most_passed(k + 1) {
-                record.goes_inside(k, most);
-            }
-        }
+        (Phase::W, Phase::F) => record.goes_inside(k, gate.most_passed(k + 1).unwrap()),
         _ => {}
     }
 }
 
 // One turn of arm k + 1, whatever its phase asks for.
 fn turn<B: Bank>(gate: &mut Gate<B>, k: usize, dice: &mut Dice, record: &mut Record)
-    requires { k < plant_arms }
+    requires arm { k < plant_arms }
+    requires arms { gate.old.n ≡ plant_arms }
     ensures { Called (whole gate.old) (whole gate.new) }
 {
     let arm = k + 1;
-    if let Ok(view) = gate.look(arm) {
-        match view.phase {
-            Phase::I => {
-                if dice.roll(3) == 0 {
-                    let _ = gate.begin(arm);
-                }
+    let view = gate.look(arm).unwrap();
+    match view.phase {
+        Phase::I => {
+            if dice.roll(3) == 0 {
+                // An arm that has had its last visit stays idle.
+                let _ = gate.begin(arm);
             }
-            Phase::F => deliver(gate, arm, k, record),
-            Phase::D | Phase::W | Phase::X => {
-                if let Ok(after) = gate.step(arm) {
-                    note(gate, k, view.phase, after, record);
-                    record.moved(gate, k);
-                }
-            }
+        }
+        // Whoever has the pass lets the arm go.
+        Phase::F if view.out => {}
+        Phase::F => deliver(gate, k, record),
+        Phase::D | Phase::W | Phase::X => {
+            let after = gate.step(arm).unwrap();
+            note(gate, k, view.phase, after, record);
+            record.moved(gate, k);
         }
     }
 }
 
 // A whole day on a new gate. Nothing but calls was made on it, so it is fair.
 fn whole_day<B: Bank>(bank: B, record: &mut Record) -> Gate<B>
+    requires { arms_for B.highest (length (B.values bank)) plant_arms ≡ plant_arms }
     ensures { FairDay (made B.highest 7 plant_arms (B.values bank)) (whole result) }
 {
     let mut gate = Gate::make(bank, NUMBER, ARMS);

@@ -1,7 +1,7 @@
 ghost use Rattle.std.specs.Prelude.{◌≡◌, ◌<◌, map};
 ghost use Rattle.std.specs.List.{range_with_len};
 ghost use Rattle.gate.specs.Whole.{whole};
-ghost use Rattle.plantday.specs.Records.{plant_arms, fresh, of_arm, with_delivery, with_wait, with_entry, with_move, some_due, is_busy};
+ghost use Rattle.plantday.specs.Records.{plant_arms, fresh, with_delivery, with_wait, with_entry, with_move, some_due, is_busy};
 
 use bank::interface::Bank;
 use door::position::Phase;
@@ -42,41 +42,36 @@ impl Record {
     }
 
     // A reading of arm k + 1 is in the table.
-    pub fn deliver(&mut self, k: usize)
-        ensures { self.new ≡ of_arm k (with_delivery k self.old) self.old }
+    pub(crate) fn deliver(&mut self, k: usize)
+        requires { k < plant_arms }
+        ensures { self.new ≡ with_delivery k self.old }
     {
-        if k < ARMS {
-            self.delivered[k] = self.delivered[k].saturating_add(1);
-        }
+        self.delivered[k] = self.delivered[k].saturating_add(1);
     }
 
     // Arm k + 1 ended its doorway.
-    pub fn waits(&mut self, k: usize)
-        ensures { self.new ≡ of_arm k (with_wait k self.old) self.old }
+    pub(crate) fn waits(&mut self, k: usize)
+        requires { k < plant_arms }
+        ensures { self.new ≡ with_wait k self.old }
     {
-        if k < ARMS {
-            self.since[k] = self.rounds.saturating_add(1);
-        }
+        self.since[k] = self.rounds.saturating_add(1);
     }
 
     // Arm k + 1 went inside; while it waited, another went inside past it `most` times.
-    pub fn goes_inside(&mut self, k: usize, most: u8)
-        ensures { self.new ≡ of_arm k (with_entry k most self.old) self.old }
+    pub(crate) fn goes_inside(&mut self, k: usize, most: u8)
+        requires { k < plant_arms }
+        ensures { self.new ≡ with_entry k most self.old }
     {
-        if k < ARMS {
-            let wait = self.rounds.saturating_sub(self.since[k]);
-            self.waited[k] = self.waited[k].max(wait);
-            self.passed[k] = self.passed[k].max(most);
-        }
+        let wait = self.rounds.saturating_sub(self.since[k]);
+        self.waited[k] = self.waited[k].max(wait);
+        self.passed[k] = self.passed[k].max(most);
     }
 
     // Arm k + 1 moved: a round is over once every arm that was not idle at its start has moved.
-    pub fn moved<B: Bank>(&mut self, gate: &Gate<B>, k: usize)
-        ensures { self.new ≡ of_arm k (with_move (whole gate.now) k self.old) self.old }
+    pub(crate) fn moved<B: Bank>(&mut self, gate: &Gate<B>, k: usize)
+        requires { k < plant_arms }
+        ensures { self.new ≡ with_move (whole gate.now) k self.old }
     {
-        if k >= ARMS {
-            return;
-        }
         self.due[k] = false;
         if !is_due(&self.due) {
             self.rounds = self.rounds.saturating_add(1);

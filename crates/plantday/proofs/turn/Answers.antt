@@ -6,5 +6,5 @@ use Rattle.plantday.proofs.turn.Goals as goal
 pub returns-then-roll-eq0 : goal.returns-then-roll-eq0
 returns-then-roll-eq0 g c = once (Begin (c.args.k + 1)) c.begin.ensures.after
 
-pub returns-in-Ok-step : goal.returns-in-Ok-step
-returns-in-Ok-step g c = once (Step (c.args.k + 1)) c.step.ensures.after
+pub returns-in-D : goal.returns-in-D
+returns-in-D g c = once (Step (c.args.k + 1)) c.step.ensures.after

@@ -1,0 +1,17 @@
+-- What the program prints, and the status that it ends with.
+use Rattle.std.specs.Prelude.{ℕ, List, Ok, Err, Result, replicate}
+use Rattle.bank.specs.Bits.{bit_registers}
+use Rattle.play.specs.Playing.{play_text}
+use Rattle.play.specs.Reports.{fault_text}
+use Rattle.schedule.specs.Reading.{Contents}
+use Rattle.schedule.specs.declared.fault.PlayFault.{PlayFault}
+
+-- the report of a play over a bank of bits that are all 0, or the line of the fault
+abbrev pub shown : Result Contents PlayFault → List ℕ
+shown (Ok c) = play_text 1 (replicate bit_registers 0) c
+shown (Err fault) = fault_text fault
+
+-- 0 after a play, 1 after a fault
+abbrev pub status_of : Result Contents PlayFault → ℕ
+status_of (Ok c) = 0
+status_of (Err fault) = 1
