@@ -3,7 +3,6 @@ use Rattle.std.specs.Prelude.{ℕ, ◌+◌, ◌-◌, ◌^◌, min, max, Bool, fa
 use Rattle.std.specs.List.{list_any, range_with_len}
 use Rattle.door.specs.History.{is_in}
 use Rattle.door.specs.States.{State, is_arm, arm_at}
-use Rattle.door.specs.Tallies.{same_phase}
 use Rattle.door.specs.declared.position.Phase.{Phase}
 use Rattle.door.specs.declared.position.Phase.TheVariants as P
 use Rattle.gate.specs.Answers.{largest_count}
@@ -73,8 +72,6 @@ most_past s k = largest_count (arm_at s (k + 1)).row s.n
 
 -- arm k + 1 stepped from one phase to another; the gate is s then
 abbrev pub noted : State → ℕ → Phase → Phase → Record → Record
-noted s k P.I to r = r
-noted s k P.D to r = if same_phase to P.W then with_wait k r else r
-noted s k P.W to r = if same_phase to P.F then with_entry k (most_past s k) r else r
-noted s k P.F to r = r
-noted s k P.X to r = r
+noted s k P.D P.W r = with_wait k r
+noted s k P.W P.F r = with_entry k (most_past s k) r
+noted s k from to r = r

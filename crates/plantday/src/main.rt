@@ -2,13 +2,12 @@
 //! It prints for each arm how many readings were delivered, the most that it was passed, and the longest wait in rounds.
 #![tactic(auto)]
 
-ghost use Rattle.std.specs.Prelude.{◌≡◌, ◌+◌, ◌<◌, length, None};
+ghost use Rattle.std.specs.Prelude.{◌≡◌, ℕ, ◌+◌, ◌<◌, length, replicate, None};
 ghost use Rattle.door.specs.Calls.{refusal_of};
 ghost use Rattle.door.specs.Making.{arms_for};
 ghost use Rattle.door.specs.States.{made};
 ghost use Rattle.door.specs.declared.call.Call.TheVariants.{Admit};
-ghost use Rattle.gate.specs.Whole.{whole};
-ghost use Rattle.plantday.specs.Day.{Called, FairDay};
+ghost use Rattle.plantday.specs.Day.{Called, FairDay, HoldsFairDay};
 ghost use Rattle.plantday.specs.Records.{plant_arms, with_leave, noted};
 
 mod dice;
@@ -16,10 +15,9 @@ mod record;
 
 use crate::dice::Dice;
 use crate::record::{ARMS, Record};
-use bank::byte_bank::ByteBank;
-use bank::interface::Bank;
-use door::position::Phase;
-use gate::gate::Gate;
+use bank::{Bank, ByteBank};
+use door::Phase;
+use gate::Gate;
 
 const SEED: u64 = 20_261_117;
 
@@ -27,6 +25,9 @@ const TURNS: u32 = 200_000;
 
 // The gate's number.
 const NUMBER: u16 = 7;
+
+// The registers of the plant's arms.
+const REGISTERS: usize = 3 * ARMS + 1;
 
 // No arm goes inside more often past a waiting one.
 const MOST_PASSED: u8 = 2;
@@ -50,9 +51,9 @@ fn pick(dice: &mut Dice) -> usize
 // Carries a reading of arm k + 1, which is inside, into the table, and lets the arm go.
 fn deliver<B: Bank>(gate: &mut Gate<B>, k: usize, record: &mut Record)
     requires arm { k < plant_arms }
-    requires inside { refusal_of (whole gate.old) (Admit (k + 1)) ≡ None }
-    ensures calls { Called (whole gate.old) (whole gate.new) }
-    ensures noted { «record».new ≡ with_leave (whole gate.new) k «record».old }
+    requires inside { refusal_of gate.old (Admit (k + 1)) ≡ None }
+    ensures calls { Called gate.old gate.new }
+    ensures noted { «record».new ≡ with_leave gate.new k «record».old }
 {
     let pass = gate.admit(k + 1).unwrap();
     let (pass, known) = gate.confirm(pass);
@@ -67,7 +68,7 @@ fn deliver<B: Bank>(gate: &mut Gate<B>, k: usize, record: &mut Record)
 fn note<B: Bank>(gate: &Gate<B>, k: usize, from: Phase, to: Phase, record: &mut Record)
     requires arm { k < plant_arms }
     requires arms { gate.now.n ≡ plant_arms }
-    ensures { «record».new ≡ noted (whole gate.now) k from to «record».old }
+    ensures { «record».new ≡ noted gate.now k from to «record».old }
 {
     match (from, to) {
         (Phase::D, Phase::W) => record.waits(k),
@@ -80,7 +81,7 @@ fn note<B: Bank>(gate: &Gate<B>, k: usize, from: Phase, to: Phase, record: &mut 
 fn turn<B: Bank>(gate: &mut Gate<B>, k: usize, dice: &mut Dice, record: &mut Record)
     requires arm { k < plant_arms }
     requires arms { gate.old.n ≡ plant_arms }
-    ensures { Called (whole gate.old) (whole gate.new) }
+    ensures { Called gate.old gate.new }
 {
     let arm = k + 1;
     let view = gate.look(arm).unwrap();
@@ -104,8 +105,9 @@ fn turn<B: Bank>(gate: &mut Gate<B>, k: usize, dice: &mut Dice, record: &mut Rec
 
 // A whole day on a new gate. Nothing but calls was made on it, so it is fair.
 fn whole_day<B: Bank>(bank: B, record: &mut Record) -> Gate<B>
-    requires { arms_for B.highest (length (B.values bank)) plant_arms ≡ plant_arms }
-    ensures { FairDay (made B.highest 7 plant_arms (B.values bank)) (whole result) }
+    requires { arms_for B.HIGHEST (length (B.values bank)) plant_arms ≡ plant_arms }
+    ensures fair { FairDay (made (B.memory bank) B.HIGHEST 7 plant_arms (B.values bank)) result }
+    ensures lent { result.memory ≡ B.memory bank }
 {
     let mut gate = Gate::make(bank, NUMBER, ARMS);
     let mut dice = Dice::new(SEED);
@@ -116,10 +118,28 @@ fn whole_day<B: Bank>(bank: B, record: &mut Record) -> Gate<B>
     gate
 }
 
+// A day on a gate over the plant's own memory, and that memory when the gate has ended: it holds the gate's registers.
+fn day_over<'a>(memory: &'a mut [u8], record: &mut Record) -> &'a mut [u8]
+    requires { arms_for 255 (length memory.old) plant_arms ≡ plant_arms }
+    ensures lent { result.ghost_name ≡ memory.entry.ghost_name }
+    ensures registers { HoldsFairDay (made memory.entry.ghost_name 255 7 plant_arms memory.old) result.now }
+{
+    let gate = whole_day(ByteBank::new(memory), record);
+    gate.into_bank().into_memory()
+}
+
+// The memory of a plant that lent it for a day.
+fn memory_after_day(record: &mut Record) -> [u8; REGISTERS]
+    ensures { (memory : ℕ) × HoldsFairDay (made memory 255 7 plant_arms (replicate 19 0)) result }
+{
+    let mut memory = [0; REGISTERS];
+    let _ = day_over(&mut memory, record);
+    memory
+}
+
 fn main(rt: HostRuntime) -> anyhow::Result<()> {
-    let mut memory = [0; 3 * ARMS + 1];
     let mut record = Record::new();
-    let _ = whole_day(ByteBank::new(&mut memory), &mut record);
+    let _ = memory_after_day(&mut record);
     for k in 0..ARMS {
         let arm = k + 1;
         let delivered = record.delivered[k];

@@ -1,11 +1,10 @@
 ghost use Rattle.std.specs.Prelude.{◌≡◌, ◌<◌, map};
 ghost use Rattle.std.specs.List.{range_with_len};
-ghost use Rattle.gate.specs.Whole.{whole};
 ghost use Rattle.plantday.specs.Records.{plant_arms, fresh, with_delivery, with_wait, with_entry, with_move, some_due, is_busy};
 
-use bank::interface::Bank;
-use door::position::Phase;
-use gate::gate::Gate;
+use bank::Bank;
+use door::Phase;
+use gate::Gate;
 use std::array;
 
 // How many arms the plant has.
@@ -70,7 +69,7 @@ impl Record {
     // Arm k + 1 moved: a round is over once every arm that was not idle at its start has moved.
     pub(crate) fn moved<B: Bank>(&mut self, gate: &Gate<B>, k: usize)
         requires { k < plant_arms }
-        ensures { self.new ≡ with_move (whole gate.now) k self.old }
+        ensures { self.new ≡ with_move gate.now k self.old }
     {
         self.due[k] = false;
         if !is_due(&self.due) {
@@ -90,14 +89,14 @@ fn is_due(due: &[bool; ARMS]) -> bool
 // Whether the gate has arm k + 1 and it is not idle.
 fn is_busy<B: Bank>(gate: &Gate<B>, k: usize) -> bool
     requires { k < plant_arms }
-    ensures { result ≡ is_busy (whole gate.now) k }
+    ensures { result ≡ is_busy gate.now k }
 {
     matches!(gate.look(k + 1), Ok(view) if view.phase != Phase::I)
 }
 
 // The arms that are not idle.
 fn busy_arms<B: Bank>(gate: &Gate<B>) -> [bool; ARMS]
-    ensures { result ≡ map (is_busy (whole gate.now)) (range_with_len 0 plant_arms) }
+    ensures { result ≡ map (is_busy gate.now) (range_with_len 0 plant_arms) }
 {
     array::from_fn(|k| is_busy(gate, k))
 }
