@@ -1,15 +1,15 @@
 -- What playing a file comes to.
-use Rattle.std.specs.Prelude.{ℕ, ◌+◌, List, [], ◌∷◌, length, Ok, Err, Option, Result, is_some, if◌then◌else◌, nat_le}
+use Rattle.std.specs.Prelude.{◌≡◌, ℕ, ◌+◌, ◌≤◌, IfOk, List, [], ◌∷◌, length, Ok, Err, Option, Result, is_some, if◌then◌else◌, nat_le}
 use Rattle.door.specs.Calls.{refusal_of, after, unless}
 use Rattle.door.specs.States.{State, made}
 use Rattle.door.specs.declared.call.Call.TheVariants.{Begin as begin, Step as step, Admit as admit, Leave as leave}
 use Rattle.door.specs.declared.refusal.Refusal.{Refusal}
-use Rattle.schedule.specs.Limits.{file_limit}
+use Rattle.schedule.specs.FileLimits.{file_limit}
 use Rattle.schedule.specs.Reading.{Contents, says}
 use Rattle.schedule.specs.declared.fault.PlayFault.{PlayFault}
 use Rattle.schedule.specs.declared.fault.PlayFault.TheVariants.{LongFile, ShortMemory}
-use Rattle.schedule.specs.declared.order.Order.{Order}
-use Rattle.schedule.specs.declared.order.Order.TheVariants.{Begin, Step, Leave}
+use Rattle.schedule.specs.declared.order_number.Order.{Order}
+use Rattle.schedule.specs.declared.order_number.Order.TheVariants.{Begin, Step, Leave}
 use Rattle.play.specs.Limits.{report_room}
 use Rattle.play.specs.Reports.{report_text}
 use Rattle.play.specs.Text.{overwritten}
@@ -67,11 +67,16 @@ abbrev pub play_memory : ℕ → List ℕ → List ℕ → Result Contents PlayF
 play_memory high regs memory (Ok c) = overwritten memory (play_text high regs c)
 play_memory high regs memory (Err fault) = memory
 
--- the same from a gate in hand, for the orders of a file
+-- what a play comes to, over a bank that held regs and with report memory that held memory:
+-- what it answers, and what bank and memory then hold
+pub record IsPlayed (high : ℕ) (regs file memory : List ℕ) (answer_is : Result ℕ PlayFault) (regs_are memory_is : List ℕ) : Type 0 where
+  pub answer : answer_is ≡ play_answer high regs (playable file (length memory))
+  pub registers : regs_are ≡ play_regs high regs (playable file (length memory))
+  pub report : memory_is ≡ play_memory high regs memory (playable file (length memory))
+  -- a report always fits the least memory
+  pub fits : IfOk answer_is (λ n. n ≤ report_room)
+
+-- a gate in hand after the orders of a file
 abbrev pub obeyed_by : Result Contents PlayFault → State → State
 obeyed_by (Ok c) s = obeyed_all s c.orders
 obeyed_by (Err fault) s = s
-
-abbrev pub refused_by : Result Contents PlayFault → State → ℕ
-refused_by (Ok c) s = refusals s c.orders
-refused_by (Err fault) s = 0
