@@ -4,9 +4,8 @@
 
 use anyhow::anyhow;
 use bank::bit_bank::BitBank;
-use play::player::play;
-use play::report::{REPORT_ROOM, fault_line};
-use schedule::limit::FILE_LIMIT;
+use play::{REPORT_ROOM, fault_line, play};
+use schedule::FILE_LIMIT;
 use std::io::{Read, Write};
 
 // Reads standard input, but no more than it takes to know that a file is too long.
