@@ -5,7 +5,7 @@ use Rattle.std.specs.Str.{bytes_eq}
 use Rattle.std.proofs.lemmas.Slice.Eq.{bytes_eq-Decides}
 use Rattle.std.proofs.lemmas.Bool.{and_parts, not-true, eqb-true, false≢true, cond-true, le-leb}
 use Rattle.schedule.specs.Faults.{fault_number, fault_place, fault_order, fault_layer}
-use Rattle.schedule.specs.Limits.{file_limit}
+use Rattle.schedule.specs.FileLimits.{file_limit}
 use Rattle.schedule.specs.Numbers.{groups, number_from}
 use Rattle.schedule.specs.declared.number.Number.{Number}
 use Rattle.schedule.specs.Reading.{Contents, contents, says, orders_from}

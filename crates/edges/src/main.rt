@@ -10,12 +10,8 @@ use anyhow::anyhow;
 use bank::bit_bank::BitBank;
 use bank::byte_bank::ByteBank;
 use bank::interface::Bank;
-use play::player::play;
-use play::report::{REPORT_ROOM, fault_line};
-use schedule::limit::FILE_LIMIT;
-use schedule::order::Order;
-use schedule::reader::read;
-use schedule::writer::write;
+use play::{REPORT_ROOM, fault_line, play};
+use schedule::{FILE_LIMIT, Order, read, write};
 use std::io::Write;
 use std::{env, fs};
 

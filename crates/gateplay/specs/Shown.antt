@@ -8,7 +8,7 @@ use Rattle.schedule.specs.declared.fault.PlayFault.{PlayFault}
 
 -- the report of a play over a bank of bits that are all 0, or the line of the fault
 abbrev pub shown : Result Contents PlayFault → List ℕ
-shown (Ok c) = play_text 1 (replicate bit_registers 0) c
+shown (Ok c) = play_text 0 1 (replicate bit_registers 0) c
 shown (Err fault) = fault_text fault
 
 -- 0 after a play, 1 after a fault

@@ -8,10 +8,9 @@ ghost use Rattle.play.specs.Limits.{report_room};
 ghost use Rattle.play.specs.Playing.{playable};
 ghost use Rattle.gateplay.specs.Shown.{shown, status_of};
 
-use bank::bit_bank::BitBank;
-use play::player::play;
-use play::report::{REPORT_ROOM, fault_line};
-use schedule::limit::FILE_LIMIT;
+use bank::BitBank;
+use play::{REPORT_ROOM, fault_line, play};
+use schedule::FILE_LIMIT;
 use std::io;
 use std::io::{Read, Write};
 use std::process::ExitCode;

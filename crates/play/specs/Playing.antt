@@ -1,15 +1,15 @@
 -- What playing a file comes to.
-use Rattle.std.specs.Prelude.{ℕ, ◌+◌, List, [], ◌∷◌, length, Ok, Err, Option, Result, is_some, if◌then◌else◌, nat_le}
+use Rattle.std.specs.Prelude.{◌≡◌, ℕ, ◌+◌, ◌≤◌, IfOk, List, [], ◌∷◌, length, Ok, Err, Option, Result, is_some, if◌then◌else◌, nat_le}
 use Rattle.door.specs.Calls.{refusal_of, after, unless}
 use Rattle.door.specs.States.{State, made}
 use Rattle.door.specs.declared.call.Call.TheVariants.{Begin as begin, Step as step, Admit as admit, Leave as leave}
 use Rattle.door.specs.declared.refusal.Refusal.{Refusal}
-use Rattle.schedule.specs.Limits.{file_limit}
+use Rattle.schedule.specs.FileLimits.{file_limit}
 use Rattle.schedule.specs.Reading.{Contents, says}
 use Rattle.schedule.specs.declared.fault.PlayFault.{PlayFault}
 use Rattle.schedule.specs.declared.fault.PlayFault.TheVariants.{LongFile, ShortMemory}
-use Rattle.schedule.specs.declared.order.Order.{Order}
-use Rattle.schedule.specs.declared.order.Order.TheVariants.{Begin, Step, Leave}
+use Rattle.schedule.specs.declared.order_number.Order.{Order}
+use Rattle.schedule.specs.declared.order_number.Order.TheVariants.{Begin, Step, Leave}
 use Rattle.play.specs.Limits.{report_room}
 use Rattle.play.specs.Reports.{report_text}
 use Rattle.play.specs.Text.{overwritten}
@@ -45,33 +45,39 @@ playable file room =
     if nat_le (length file) file_limit then (if nat_le report_room room then says file else Err ShortMemory) else Err LongFile
 
 -- gate 0 over a bank, made for a file and after its orders
-abbrev pub start : ℕ → List ℕ → Contents → State
-start high regs c = made high 0 c.arms regs
+abbrev pub start : ℕ → ℕ → List ℕ → Contents → State
+start lent high regs c = made lent high 0 c.arms regs
 
-abbrev pub end : ℕ → List ℕ → Contents → State
-end high regs c = obeyed_all (start high regs c) c.orders
+abbrev pub end : ℕ → ℕ → List ℕ → Contents → State
+end lent high regs c = obeyed_all (start lent high regs c) c.orders
 
-abbrev pub play_text : ℕ → List ℕ → Contents → List ℕ
-play_text high regs c = report_text (end high regs c) (length c.orders) (refusals (start high regs c) c.orders)
+abbrev pub play_text : ℕ → ℕ → List ℕ → Contents → List ℕ
+play_text lent high regs c = report_text (end lent high regs c) (length c.orders) (refusals (start lent high regs c) c.orders)
 
 -- what play answers, and what the bank and the report memory then hold
-abbrev pub play_answer : ℕ → List ℕ → Result Contents PlayFault → Result ℕ PlayFault
-play_answer high regs (Ok c) = Ok (length (play_text high regs c))
-play_answer high regs (Err fault) = Err fault
+abbrev pub play_answer : ℕ → ℕ → List ℕ → Result Contents PlayFault → Result ℕ PlayFault
+play_answer lent high regs (Ok c) = Ok (length (play_text lent high regs c))
+play_answer lent high regs (Err fault) = Err fault
 
-abbrev pub play_regs : ℕ → List ℕ → Result Contents PlayFault → List ℕ
-play_regs high regs (Ok c) = (end high regs c).regs
-play_regs high regs (Err fault) = regs
+abbrev pub play_regs : ℕ → ℕ → List ℕ → Result Contents PlayFault → List ℕ
+play_regs lent high regs (Ok c) = (end lent high regs c).regs
+play_regs lent high regs (Err fault) = regs
 
-abbrev pub play_memory : ℕ → List ℕ → List ℕ → Result Contents PlayFault → List ℕ
-play_memory high regs memory (Ok c) = overwritten memory (play_text high regs c)
-play_memory high regs memory (Err fault) = memory
+abbrev pub play_memory : ℕ → ℕ → List ℕ → List ℕ → Result Contents PlayFault → List ℕ
+play_memory lent high regs memory (Ok c) = overwritten memory (play_text lent high regs c)
+play_memory lent high regs memory (Err fault) = memory
 
--- the same from a gate in hand, for the orders of a file
+-- what a play comes to, over a bank that writes the memory lent and held regs, and with report memory that held memory:
+-- what it answers, over which memory the bank then is, and what bank and report memory then hold
+pub record IsPlayed (lent high : ℕ) (regs file memory : List ℕ) (answer_is : Result ℕ PlayFault) (lent_is : ℕ) (regs_are memory_is : List ℕ) : Type 0 where
+  pub answer : answer_is ≡ play_answer lent high regs (playable file (length memory))
+  pub same_bank : lent_is ≡ lent
+  pub registers : regs_are ≡ play_regs lent high regs (playable file (length memory))
+  pub report : memory_is ≡ play_memory lent high regs memory (playable file (length memory))
+  -- a report always fits the least memory
+  pub fits : IfOk answer_is (λ n. n ≤ report_room)
+
+-- a gate in hand after the orders of a file
 abbrev pub obeyed_by : Result Contents PlayFault → State → State
 obeyed_by (Ok c) s = obeyed_all s c.orders
 obeyed_by (Err fault) s = s
-
-abbrev pub refused_by : Result Contents PlayFault → State → ℕ
-refused_by (Ok c) s = refusals s c.orders
-refused_by (Err fault) s = 0

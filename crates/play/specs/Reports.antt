@@ -19,7 +19,7 @@ side_text None = codes "-"
 -- the line of arm k + 1
 abbrev pub arm_line : State → ℕ → List ℕ
 arm_line s k =
-    decimal (k + 1) ++ codes " " ++ (letter_of (phase_at s (k + 1)) ∷ [])
+    decimal (k + 1) ++ codes " " ++ letter_of (phase_at s (k + 1))
     ++ codes " " ++ side_text (arm_at s (k + 1)).side ++ codes " " ++ decimal (arm_at s (k + 1)).visits
     ++ codes " " ++ decimal (largest_count (arm_at s (k + 1)).row s.n) ++ codes "\n"
 

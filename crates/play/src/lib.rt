@@ -1,11 +1,14 @@
 //! Plays a schedule file on a gate and reports what came of it.
 #![tactic(auto)]
 
-// The service byte, held at 1 during a play.
-pub mod service;
 // The lines of a report.
 mod lines;
 // The text of a report, and of a fault.
-pub mod report;
+mod page;
 // Playing a file.
-pub mod player;
+mod player;
+// The service byte, held at 1 during a play.
+pub mod service;
+
+pub use page::{REPORT_ROOM, fault_line, report};
+pub use player::{Played, play};

@@ -1,10 +1,9 @@
 ghost use Rattle.std.specs.Prelude.{◌≡◌, ◌<◌, ◌≤◌, length};
-ghost use Rattle.gate.specs.Whole.{whole};
 ghost use Rattle.play.specs.Reports.{side_text, arm_line, first_line};
 
 use arrayvec::ArrayString;
-use bank::interface::Bank;
-use gate::gate::Gate;
+use bank::Bank;
+use gate::Gate;
 use itoa::Buffer;
 
 // No first line is longer, whatever its numbers are.
@@ -30,7 +29,7 @@ pub(crate) fn first_line<B: Bank>(
     orders: usize,
     refused: usize,
 ) -> ArrayString<FIRST_ROOM>
-    ensures { result.bytes ≡ first_line (whole gate.now) orders refused }
+    ensures { result.bytes ≡ first_line gate.now orders refused }
 {
     let mut digits = Buffer::new();
     let mut line = ArrayString::new();
@@ -49,7 +48,7 @@ pub(crate) fn first_line<B: Bank>(
 // The line of arm k + 1: arm, phase, side, visits and the largest count of its row.
 pub(crate) fn arm_line<B: Bank>(gate: &Gate<B>, k: usize) -> ArrayString<LINE_ROOM>
     requires { k < gate.now.n }
-    ensures { result.bytes ≡ arm_line (whole gate.now) k }
+    ensures { result.bytes ≡ arm_line gate.now k }
 {
     let arm = k + 1;
     let view = gate.look(arm).unwrap();

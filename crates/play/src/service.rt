@@ -1,6 +1,6 @@
 ghost use Rattle.std.specs.Prelude.{◌≡◌};
 
-// Holds the service byte at 1 while it lives, and then puts the former value back.
+/// Holds the service byte at 1 while it lives, and then puts the former value back.
 pub struct Service<'a> {
     byte: &'a mut u8,
     former: u8,
@@ -16,6 +16,7 @@ impl Drop for Service<'_> {
 }
 
 impl<'a> Service<'a> {
+    /// Puts 1 into the byte, and keeps what it was.
     pub fn start(byte: &'a mut u8) -> Service<'a>
         ensures former { result.former ≡ byte.old }
         ensures on { result.byte.now ≡ 1 }

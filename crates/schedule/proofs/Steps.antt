@@ -10,7 +10,7 @@ use Rattle.schedule.specs.declared.fault.NumberFault.{NumberFault}
 use Rattle.schedule.specs.declared.fault.ScheduleFault.{ScheduleFault}
 use Rattle.schedule.specs.Numbers.{number_from}
 use Rattle.schedule.specs.Orders.{order_of}
-use Rattle.schedule.specs.Reading.{order_from, orders_from, preceded}
+use Rattle.schedule.specs.Reading.{order_from, orders_from, orders_at, preceded}
 
 -- how many bytes a number has
 abbrev pub span : List ℕ → ℕ
@@ -90,24 +90,28 @@ module _ (file : List ℕ) (at count : ℕ) (p : Placed) (e : order_from at coun
       let l = length-drop at file in
       (omega arith, omega arith)
 
-abbrev orders_of : Result (List Order) ScheduleFault → List Order
-orders_of r = result_unwrap_or r []
-
--- the orders from a place on, where they have no fault, begin with the one there
-module _ (file : List ℕ) (at count : ℕ) (sound : IsOk (orders_from at count (drop at file))) where
-  pub next_order : (p : Placed) → order_from at count (drop at file) ≡ Ok p
-      → IsOk (orders_from p.next (count + 1) (drop p.next file))
-      × (orders_of (orders_from at count (drop at file)) ≡ p.order ∷ orders_of (orders_from p.next (count + 1) (drop p.next file)))
-  next_order p e = by (orders_from p.next (count + 1) (drop p.next file)) (subst IsOk (step_at file at count p e) sound) (ap orders_of (step_at file at count p e))
+-- orders without a fault begin with the one there, and those after it have no fault either
+module _ (file : List ℕ) (at count : ℕ) (p : Placed) (sound : IsOk (orders_from at count (drop at file))) (e : order_from at count (drop at file) ≡ Ok p) where
+  pub next_sound : IsOk (orders_from p.next (count + 1) (drop p.next file))
+  next_sound = by (orders_from p.next (count + 1) (drop p.next file)) (subst IsOk (step_at file at count p e) sound)
     where
-      by : (r : Result (List Order) ScheduleFault) → IsOk (preceded p.order r) → orders_of (orders_from at count (drop at file)) ≡ orders_of (preceded p.order r)
-          → IsOk r × (orders_of (orders_from at count (drop at file)) ≡ p.order ∷ orders_of r)
-      by (Ok os) s e = (refl, e)
-      by (Err f) s e = absurd (grind arith)
+      by : (r : Result (List Order) ScheduleFault) → IsOk (preceded p.order r) → IsOk r
+      by (Ok os) s = refl
+      by (Err f) s = absurd (grind arith)
 
-  pub no_order_left : (f : ScheduleFault) → order_from at count (drop at file) ≡ Err f → orders_of (orders_from at count (drop at file)) ≡ []
-  no_order_left f e = by (drop at file) refl
+  pub next_first : orders_at file at count ≡ p.order ∷ orders_at file p.next (count + 1)
+  next_first = ap (λ r. result_unwrap_or r []) (step_at file at count p e) ∙ by (orders_from p.next (count + 1) (drop p.next file)) next_sound
     where
-      by : (bytes : List ℕ) → drop at file ≡ bytes → orders_of (orders_from at count (drop at file)) ≡ []
-      by [] d = let k = orders_end at count in cc
-      by (b ∷ bytes) d = let k = orders_fault at count (drop at file) f (grind arith) e in absurd (grind arith)
+      by : (r : Result (List Order) ScheduleFault) → IsOk r → result_unwrap_or (preceded p.order r) [] ≡ p.order ∷ result_unwrap_or r []
+      by (Ok os) s = refl
+      by (Err f) s = absurd (grind arith)
+
+pub none_left : (file : List ℕ) (at count : ℕ) (f : ScheduleFault) → IsOk (orders_from at count (drop at file)) → order_from at count (drop at file) ≡ Err f → orders_at file at count ≡ []
+none_left file at count f sound e = by (drop at file) refl
+  where
+    by : (bytes : List ℕ) → drop at file ≡ bytes → orders_at file at count ≡ []
+    by [] d = let k = orders_end at count in cc
+    by (b ∷ bytes) d = let k = orders_fault at count (drop at file) f (grind arith) e in absurd (grind arith)
+
+-- what a call of `next` does
+pub ruleset next_order = (next_sound, next_first, none_left, next_at)

@@ -1,13 +1,16 @@
 -- What the reader has found out on its way through a file.
-use Rattle.std.proofs.Common.{◌≡◌, ℕ, ◌+◌, true, List, ◌∷◌, length, drop, Ok, Err, Result, refl, arith}
+use Rattle.std.proofs.Common.{◌≡◌, ℕ, ap, ◌∙◌, ◌<◌, ◌≤◌, length-drop, ◌+◌, true, List, ◌∷◌, length, drop, Ok, Err, Result, refl, arith}
+use Rattle.std.proofs.Math.ListN.{drop_of_length-le}
 use Rattle.std.proofs.lemmas.Bool.Decides.{nat_tests}
 use Rattle.schedule.specs.declared.order_number.Order.{Order}
 use Rattle.schedule.specs.declared.number.Number.{Number}
+use Rattle.schedule.specs.declared.parts.Placed.{Placed}
 use Rattle.schedule.specs.declared.fault.NumberFault.{NumberFault}
 use Rattle.schedule.specs.declared.fault.ScheduleFault.{ScheduleFault}
 use Rattle.schedule.specs.FileLimits.{is_arm_count}
 use Rattle.schedule.specs.Numbers.{number_from}
-use Rattle.schedule.specs.Reading.{arms_from, preceded, order_count}
+use Rattle.schedule.proofs.Steps.{step_at, next_at, orders_fault, orders_end}
+use Rattle.schedule.specs.Reading.{arms_from, order_from, orders_from, preceded, order_count}
 
 -- how many orders there are, after some that are counted already
 abbrev pub tally : ℕ → Result (List Order) ScheduleFault → Result ℕ ScheduleFault
@@ -21,6 +24,21 @@ tally_preceded n o (Err f) = refl
 pub count_tally : (r : Result (List Order) ScheduleFault) → order_count r ≡ tally 0 r
 count_tally (Ok os) = grind arith
 count_tally (Err f) = refl
+
+-- at a place of a file: one order more, a fault, and the end
+module _ (file : List ℕ) (at n : ℕ) where
+  pub count_more : (p : Placed) → order_from at (n + 1) (drop at file) ≡ Ok p
+      → tally n (orders_from at (n + 1) (drop at file)) ≡ tally (n + 1) (orders_from p.next (n + 1 + 1) (drop p.next file))
+  count_more p e = ap (tally n) (step_at file at (n + 1) p e) ∙ tally_preceded n p.order (orders_from p.next (n + 1 + 1) (drop p.next file))
+
+  pub count_fault : (f : ScheduleFault) → at < length file → order_from at (n + 1) (drop at file) ≡ Err f
+      → tally n (orders_from at (n + 1) (drop at file)) ≡ Err f
+  count_fault f l e = let d = length-drop at file in ap (tally n) (orders_fault at (n + 1) (drop at file) f (omega arith) e)
+
+  pub count_end : length file ≤ at → tally n (orders_from at (n + 1) (drop at file)) ≡ Ok n
+  count_end l = let d = drop_of_length-le file l in let k = orders_end at (n + 1) in grind arith
+
+pub ruleset counting = (count_tally, count_more, count_fault, count_end, next_at)
 
 -- the first number of a file is its arm count
 pub record First (file : List ℕ) (n : Number) : Type 0 where

@@ -1,5 +1,6 @@
 -- What a file says: its arm count and its orders, or its first fault.
 use Rattle.std.specs.Prelude.{ℕ, ◌+◌, if◌then◌else◌, List, [], ◌∷◌, length, drop, Some, None, Ok, Err, Option, Result, nat_le, nat_lt}
+use Rattle.std.specs.Result.{result_unwrap_or}
 use Rattle.schedule.specs.declared.order_number.Order.{Order}
 use Rattle.schedule.specs.declared.number.Number.{Number}
 use Rattle.schedule.specs.declared.schedule_file.Heading.{Heading}
@@ -70,6 +71,10 @@ orders_from place count (low ∷ high ∷ rest) =
     let one = orders_from (place + 1) (count + 1) (high ∷ rest) in
     let two = orders_from (place + 2) (count + 1) rest in
     and_then (order_from place count (low ∷ high ∷ rest)) (λ p. preceded p.order (if nat_lt low 128 then one else two))
+
+-- the same as a list, where they have no fault
+abbrev pub orders_at : List ℕ → ℕ → ℕ → List Order
+orders_at file at count = result_unwrap_or (orders_from at count (drop at file)) []
 
 abbrev pub order_count : Result (List Order) ScheduleFault → Result ℕ ScheduleFault
 order_count (Ok os) = Ok (length os)

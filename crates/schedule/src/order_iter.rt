@@ -1,7 +1,6 @@
-ghost use Rattle.std.specs.Prelude.{◌≡◌, ◌≤◌, [], drop, IsOk};
-ghost use Rattle.std.specs.Result.{result_unwrap_or};
+ghost use Rattle.std.specs.Prelude.{◌≡◌, ◌≤◌, drop, IsOk};
 ghost use Rattle.std.specs.Iterator.{YieldsFirst, item_count};
-ghost use Rattle.schedule.specs.Reading.{orders_from};
+ghost use Rattle.schedule.specs.Reading.{orders_from, orders_at};
 
 use crate::order_number::Order;
 use crate::parts::order_at;
@@ -16,14 +15,13 @@ pub struct Orders<'a> {
 }
 
 impl<'a> Model for Orders<'a> {
-    ghost use Rattle.std.specs.Prelude.{◌≤◌, List, [], drop, IsOk};
-    ghost use Rattle.std.specs.Result.{result_unwrap_or};
+    ghost use Rattle.std.specs.Prelude.{◌≤◌, List, drop, IsOk};
     ghost use Rattle.schedule.specs.declared.order_number.Order.{Order};
-    ghost use Rattle.schedule.specs.Reading.{orders_from};
+    ghost use Rattle.schedule.specs.Reading.{orders_from, orders_at};
 
     ghost Value = { List Order };
 
-    ghost view = { λ o. result_unwrap_or (orders_from o.at o.count (drop o.at o.file.now)) [] };
+    ghost view = { λ o. orders_at o.file.now o.at o.count };
 
     ghost invariant = { λ o. IsOk (orders_from o.at o.count (drop o.at o.file.now)) × (o.count ≤ o.at) };
 }
@@ -33,7 +31,7 @@ impl<'a> Orders<'a> {
     pub(crate) fn new(file: &'a [u8], at: usize, count: usize) -> Orders<'a>
         requires sound { IsOk (orders_from at count (drop at file.now)) }
         requires counted { count ≤ at }
-        ensures { result ≡ result_unwrap_or (orders_from at count (drop at file.now)) [] }
+        ensures { result ≡ orders_at file.now at count }
     {
         Orders { file, at, count }
     }
@@ -57,6 +55,7 @@ impl<'a> Iterator for Orders<'a> {
 
     ghost remaining = { item_count (λ rest. rest) };
 
+    #[tactic(auto, using(crate::proofs::Steps::next_order))]
     fn next(&mut self) -> Option<Order> {
         let placed = order_at(self.file, self.at, self.count).ok()?;
         self.at = placed.next;

@@ -52,6 +52,7 @@ impl<'a> Model for Schedule<'a> {
 }
 
 // How many orders stand from a place to the end of a file.
+#[tactic(auto, using(crate::proofs::Told::counting))]
 fn count_orders(file: &[u8], from: usize) -> Result<usize, ScheduleFault>
     ensures answer { result ≡ order_count (orders_from from 1 (drop from file.now)) }
     ensures few { IfOk result (λ n. n ≤ length file.now) }
@@ -67,6 +68,7 @@ fn count_orders(file: &[u8], from: usize) -> Result<usize, ScheduleFault>
 }
 
 impl<'a> File<'a> {
+    /// Opens a file of at most 60,000 bytes; a longer one is refused as long.
     pub fn new(bytes: &'a [u8]) -> Result<File<'a>, PlayFault>
         ensures { result ≡ short_file bytes.now }
     {
@@ -76,7 +78,7 @@ impl<'a> File<'a> {
         Ok(File { bytes })
     }
 
-    /// Goes through the whole file.
+    /// Goes through the whole file, and answers its orders or its first fault.
     pub fn schedule(&self) -> Result<Schedule<'a>, ScheduleFault>
         ensures { result ≡ schedule_from self.now }
     {
@@ -101,7 +103,7 @@ impl<'a> Schedule<'a> {
         self.heading
     }
 
-    /// The orders, from the first on.
+    /// The orders, from the first on. There are no more of them than bytes in the longest file.
     pub fn orders(&self) -> Orders<'a>
         ensures orders { result ≡ self.now.orders }
         ensures few { length result ≤ file_limit }

@@ -1,6 +1,12 @@
+use Rattle.std.proofs.Common.{◌≡◌, ◌+◌, ◌≤◌, length}
 use Rattle.gate.specs.Whole.{whole}
-use Rattle.play.proofs.Orders.{Obeying}
+use Rattle.schedule.specs.FileLimits.{file_limit}
+use Rattle.play.specs.Playing.{obeyed_all, refusals}
 use Rattle.play.proofs.player.obey_all.Given as goal
 
-abbrev pub invariant-loop-i : goal.invariant-loop-i
-invariant-loop-i g l = Obeying l.file (whole l.initial.gate) (whole l.gate) l.at l.i l.refused
+-- what the gate makes of the orders that are left is what it makes of all from the start
+abbrev pub invariant-loop-order : goal.invariant-loop-order
+invariant-loop-order g l =
+    (l.refused + length l.order-iterator ≤ file_limit)
+    × (l.refused + refusals (whole l.gate) l.order-iterator ≡ refusals (whole l.initial.gate) l.schedule.orders)
+    × (obeyed_all (whole l.gate) l.order-iterator ≡ obeyed_all (whole l.initial.gate) l.schedule.orders)

@@ -3,7 +3,7 @@ use Rattle.arrayvec.specs.ArrayString.{array_string_len}
 use Rattle.gate.specs.Whole.{whole}
 use Rattle.play.specs.Reports.{arm_line}
 use Rattle.play.specs.Text.{lines}
-use Rattle.play.proofs.report.report.Given as goal
+use Rattle.play.proofs.page.put_report.Given as goal
 
 abbrev pub invariant-loop-k : goal.invariant-loop-k
 invariant-loop-k g l =
