@@ -1,4 +1,4 @@
-ghost use Rattle.std.specs.Prelude.{◌≡◌};
+ghost use Rattle.std.specs.Prelude.{◌≡◌, IsTrue, IfOk};
 ghost use Rattle.door.specs.declared.call.Call.TheVariants.{Admit, Leave};
 ghost use Rattle.gate.specs.Answers.{admit_answer, leave_answer};
 ghost use Rattle.door.specs.Calls.{after, knows};
@@ -16,6 +16,7 @@ impl<B: Bank> Gate<B> {
     pub fn admit(&mut self, arm: usize) -> Result<Pass, Refusal>
         ensures answer { result ≡ admit_answer self.old arm }
         ensures after { self.new ≡ after self.old (Admit arm) }
+        ensures known { IfOk result (λ pass. IsTrue (knows self.new pass.gate pass.arm)) }
     {
         let record = self.may_admit(arm)?;
         self.arms[arm - 1] = Arm {

@@ -1,6 +1,7 @@
 ghost use Rattle.std.specs.Prelude.{◌≡◌};
 ghost use Rattle.gate.specs.Answers.{index_of, look_answer, tally_answer, most_answer};
 ghost use Rattle.door.specs.States.{bit_of};
+ghost use Rattle.gate.specs.Gates.{IsGate};
 
 use crate::gate::{Gate, Tally, View};
 use crate::rows::largest;
@@ -20,9 +21,10 @@ fn index_of(position: Position) -> usize
 }
 
 impl<B: Bank> Gate<B> {
-    /// How many arms the gate has, 32 at most.
+    /// How many arms the gate has, 32 at most. Of any gate in hand: only a making and calls lead to it.
     pub fn arm_count(&self) -> usize
-        ensures { result ≡ self.now.n }
+        ensures arms { result ≡ self.now.n }
+        ensures gate { IsGate self.now }
     {
         self.n
     }

@@ -1,15 +1,16 @@
 -- A report fits the least memory that is asked for.
-use Rattle.std.proofs.Common.{ℕ, zero, suc, ◌+◌, ◌-◌, ◌*◌, ◌^◌, ◌<◌, ◌≤◌, List, [], ◌∷◌, length, slice_index, Some, None, Option, subst, inl, inr, mul-suc, arith, length-append}
+use Rattle.std.proofs.Common.{◌≡◌, ℕ, zero, suc, ◌+◌, ◌-◌, ◌*◌, ◌^◌, ◌<◌, ◌≤◌, List, [], ◌∷◌, length, slice_index, Some, None, Option, subst, inl, inr, mul-suc, arith, length-append}
 use Rattle.std.proofs.lemmas.Bool.{cases_lt}
 use Rattle.std.proofs.lemmas.Grind.{not_there}
 use Rattle.std.proofs.lemmas.Fmt.{length-decimal-le}
 use Rattle.std.proofs.lemmas.Bool.Decides.{nat_tests}
 use Rattle.door.specs.Limits.{arm_limit, tally_limit}
-use Rattle.door.specs.Positions.{side_of}
-use Rattle.door.specs.States.{State, arm_at, bit_of}
+use Rattle.door.specs.Positions.{letter_of, side_of}
+use Rattle.door.specs.States.{State, arm_at, phase_at, bit_of}
 use Rattle.door.specs.Calls.{after, run}
 use Rattle.door.specs.Law.{Origin, IsReached}
 use Rattle.door.specs.declared.call.Call.{Call}
+use Rattle.door.specs.declared.position.Phase.{Phase}
 use Rattle.door.proofs.Bounds.{Bounded, after_bounded, made_bounded}
 use Rattle.play.specs.Limits.{report_room}
 use Rattle.play.specs.Text.{lines}
@@ -27,6 +28,9 @@ largest_bounded row (suc n) h = omega (arith, largest_bounded row n h, h n)
 bit_short : (s : State) → Bounded s → bit_of s ≤ 1
 bit_short s h = grind (arith, nat_tests, h.bit)
 
+letter_short : (p : Phase) → length (letter_of p) ≡ 1
+letter_short p = grind arith
+
 line_short : (s : State) (k : ℕ) → Bounded s → k < arm_limit → length (arm_line s k) ≤ 22
 line_short s k h l =
     let a = arm_at s (k + 1) in
@@ -34,6 +38,7 @@ line_short s k h l =
     let side = side_short a.side b.bit in
     let begun = b.begun in
     let most = largest_bounded a.row s.n b.counts in
+    let letter = letter_short (phase_at s (k + 1)) in
     let arm_digits = length-decimal-le 2 (k + 1) in
     let visit_digits = length-decimal-le 10 a.visits in
     let count_digits = length-decimal-le 3 (largest_count a.row s.n) in
@@ -70,7 +75,7 @@ run_bounded s (c ∷ cs) h = run_bounded (after s c) cs (after_bounded s c h)
 pub report_fits : (s : State) (orders refused : ℕ) → IsReached s → orders < 2 ^ 64 → refused < 2 ^ 64 → length (report_text s orders refused) ≤ report_room
 report_fits s orders refused reached o r =
     let short : Origin s → length (report_text s orders refused) ≤ report_room = λ origin.
-    let start = made_bounded origin.high origin.number origin.wanted origin.regs in
+    let start = made_bounded origin.memory origin.high origin.number origin.wanted origin.regs in
     bounded_fits s orders refused (subst Bounded origin.leads (run_bounded _ origin.calls start)) o r in
     elim (cases_lt report_room (length (report_text s orders refused))) [
       | inl l ↦ absurd (not_there reached (λ origin. let h = short origin in omega arith))

@@ -1,4 +1,5 @@
 ghost use Rattle.std.specs.Prelude.{◌≡◌, ◌<◌, ◌≤◌, length};
+ghost use Rattle.door.specs.Limits.{arm_limit};
 ghost use Rattle.play.specs.Reports.{side_text, arm_line, first_line};
 
 use arrayvec::ArrayString;
@@ -47,7 +48,8 @@ pub(crate) fn first_line<B: Bank>(
 
 // The line of arm k + 1: arm, phase, side, visits and the largest count of its row.
 pub(crate) fn arm_line<B: Bank>(gate: &Gate<B>, k: usize) -> ArrayString<LINE_ROOM>
-    requires { k < gate.now.n }
+    requires arm { k < gate.now.n }
+    requires few { gate.now.n ≤ arm_limit }
     ensures { result.bytes ≡ arm_line gate.now k }
 {
     let arm = k + 1;

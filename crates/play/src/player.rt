@@ -70,6 +70,7 @@ fn ready(file: &[u8], room: usize) -> Result<Schedule<'_>, PlayFault>
 
 // Plays a file on gate 0 over a bank, puts the report at the start of the memory, and hands the bank back.
 // The guard shows that the service byte reads 1 while this works.
+#[tactic(auto, using(crate::proofs::Lent::obeyed_all_lent))]
 fn perform<B: Bank>(file: &[u8], bank: B, memory: &mut [u8], guard: &Service) -> Played<B>
     requires { guard.now.byte.now ≡ 1 }
     ensures { IsPlayed (B.memory bank) B.HIGHEST (B.values bank) file.now memory.old result.answer (B.memory result.bank) (B.values result.bank) memory.new }

@@ -1,5 +1,4 @@
 use Rattle.std.proofs.Common.{◌≡◌, ◌+◌, ◌≤◌, length}
-use Rattle.gate.specs.Whole.{whole}
 use Rattle.schedule.specs.FileLimits.{file_limit}
 use Rattle.play.specs.Playing.{obeyed_all, refusals}
 use Rattle.play.proofs.player.obey_all.Given as goal
@@ -8,5 +7,5 @@ use Rattle.play.proofs.player.obey_all.Given as goal
 abbrev pub invariant-loop-order : goal.invariant-loop-order
 invariant-loop-order g l =
     (l.refused + length l.order-iterator ≤ file_limit)
-    × (l.refused + refusals (whole l.gate) l.order-iterator ≡ refusals (whole l.initial.gate) l.schedule.orders)
-    × (obeyed_all (whole l.gate) l.order-iterator ≡ obeyed_all (whole l.initial.gate) l.schedule.orders)
+    × (l.refused + refusals l.gate l.order-iterator ≡ refusals l.initial.gate l.schedule.orders)
+    × (obeyed_all l.gate l.order-iterator ≡ obeyed_all l.initial.gate l.schedule.orders)
