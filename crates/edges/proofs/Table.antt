@@ -106,7 +106,7 @@ abbrev line_test : List ℕ → PlayFault → Bool
 line_test line f = bytes_eq (fault_text f) line
 
 abbrev report_test : List ℕ → Contents → Bool
-report_test text c = bytes_eq (play_text highest registers c) text
+report_test text c = bytes_eq (play_text 0 highest registers c) text
 
 abbrev same_bool : Bool → Bool → Bool
 same_bool true b = b
@@ -144,11 +144,11 @@ played file memory short room = cond-true _ _ _ short ∙ cond-true _ _ _ (le-le
 same_report : (file text memory : List ℕ) (r : Result Contents PlayFault)
     → ok_test (report_test text) r ≡ true → playable file (length memory) ≡ r → Plays file text memory
 same_report file text memory r t e =
-    let P : Contents → Type 0 = λ c. play_text highest registers c ≡ text in
-    let h = is_ok {P = P} (report_test text) (λ c. same_bytes (play_text highest registers c) text) r t in
+    let P : Contents → Type 0 = λ c. play_text 0 highest registers c ≡ text in
+    let h = is_ok {P = P} (report_test text) (λ c. same_bytes (play_text 0 highest registers c) text) r t in
     record {
-      answer = ap (play_answer highest registers) (e ∙ h.1) ∙ ap (λ bytes. Ok (length bytes)) h.2;
-      report = ap (play_memory highest registers memory) (e ∙ h.1) ∙ ap (overwritten memory) h.2;
+      answer = ap (play_answer 0 highest registers) (e ∙ h.1) ∙ ap (λ bytes. Ok (length bytes)) h.2;
+      report = ap (play_memory 0 highest registers memory) (e ∙ h.1) ∙ ap (overwritten memory) h.2;
     }
 
 -- a case whose test passes holds

@@ -58,8 +58,8 @@ Faulty file P = (fault : PlayFault) × (says file ≡ Err fault) × P fault
 
 -- a play with this memory answers the length of a text, and leaves the text at the start of the memory
 pub record Plays (file text memory : List ℕ) : Type 0 where
-  pub answer : play_answer highest registers (playable file (length memory)) ≡ Ok (length text)
-  pub report : play_memory highest registers memory (playable file (length memory)) ≡ overwritten memory text
+  pub answer : play_answer 0 highest registers (playable file (length memory)) ≡ Ok (length text)
+  pub report : play_memory 0 highest registers memory (playable file (length memory)) ≡ overwritten memory text
 
 -- what a case claims
 abbrev pub Holds : Case → Type 0
@@ -107,11 +107,11 @@ two_again = two_gone ++ 0x08 ∷ replicate 15 0x09
 
 -- a gate over a bit bank after the orders of a file
 abbrev pub gate_after : ℕ → List ℕ → State
-gate_after arms file = obeyed_by (says file) (made highest 0 arms registers)
+gate_after arms file = obeyed_by (says file) (made 0 highest 0 arms registers)
 
 -- a gate whose arm 1 has begun so many visits and is idle
 abbrev pub gate_visited : ℕ → State
-gate_visited visits = with_arm 1 (with_visit Idle visits false fresh) (made highest 0 1 registers)
+gate_visited visits = with_arm 1 (with_visit Idle visits false fresh) (made 0 highest 0 1 registers)
 
 abbrev pub table : List Case
 table =

@@ -7,9 +7,7 @@ mod cases;
 
 use crate::cases::edge_cases;
 use anyhow::anyhow;
-use bank::bit_bank::BitBank;
-use bank::byte_bank::ByteBank;
-use bank::interface::Bank;
+use bank::{Bank, BitBank, ByteBank};
 use play::{REPORT_ROOM, fault_line, play};
 use schedule::{FILE_LIMIT, Order, read, write};
 use std::io::Write;
