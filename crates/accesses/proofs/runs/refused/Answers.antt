@@ -1,0 +1,18 @@
+use Rattle.std.proofs.Common.{ap, ◌∙◌}
+use Rattle.gate.specs.Whole.{whole}
+use Rattle.accesses.proofs.Turns.{turned_n, turned_number, run_on}
+use Rattle.accesses.proofs.runs.refused.Goals as goal
+
+pub loop-t-preserved : goal.loop-t-preserved
+loop-t-preserved c =
+    let turned = c.turn_after_refusals.ensures in
+    let before = c.loop-t.invariant in
+    let gate = whole c.loop-t.gate.gate in
+    let other = whole c.loop-t.other in
+    record {
+      turns = run_on c.loop-t.t c.arm_count-n.result _ _ _ _ before.turns c.arm_count-n.ensures c.arm_of-arm.ensures.arm turned.gate;
+      arms = ap (λ s. s.n) turned.gate ∙ turned_n gate c.arm_of-arm.result ∙ before.arms;
+      number = ap (λ s. s.number) turned.gate ∙ turned_number gate c.arm_of-arm.result ∙ before.number;
+      others = ap (λ s. s.n) turned.other ∙ turned_n other 1 ∙ before.others;
+      other_number = ap (λ s. s.number) turned.other ∙ turned_number other 1 ∙ before.other_number;
+    }

@@ -1,0 +1,85 @@
+ghost use Rattle.std.specs.Prelude.{◌≡◌};
+
+use bank::Bank;
+use std::cell::Cell;
+use std::rc::Rc;
+
+// So many reads and writes.
+#[derive(Clone, Copy, Debug, PartialEq, Eq)]
+pub struct Count {
+    pub reads: u64,
+    pub writes: u64,
+}
+
+// What was asked of a bank since it was made.
+#[derive(Drop)]
+pub struct Accesses {
+    reads: Cell<u64>,
+    writes: Cell<u64>,
+}
+
+// One more, in a cell.
+fn add(cell: &Cell<u64>) {
+    cell.set(cell.get().saturating_add(1));
+}
+
+impl Accesses {
+    pub fn none() -> Accesses {
+        Accesses {
+            reads: Cell::new(0),
+            writes: Cell::new(0),
+        }
+    }
+
+    pub fn count(&self) -> Count {
+        Count {
+            reads: self.reads.get(),
+            writes: self.writes.get(),
+        }
+    }
+}
+
+// A bank of one byte each that owns its registers, and counts each read and each write that is asked of it,
+// also those that it refuses.
+#[derive(Drop)]
+pub struct CountingBank {
+    registers: Vec<u8>,
+    accesses: Rc<Accesses>,
+}
+
+impl CountingBank {
+    // A bank with these registers, whose accesses are counted in these cells.
+    pub fn new(registers: Vec<u8>, accesses: Rc<Accesses>) -> CountingBank
+        ensures { result.registers ≡ registers }
+    {
+        CountingBank {
+            registers,
+            accesses,
+        }
+    }
+}
+
+impl Bank for CountingBank {
+    const HIGHEST: u64 = 255;
+
+    ghost HIGHEST = { 255 };
+
+    ghost values = { λ s. s.registers.items };
+
+    ghost memory = { λ s. 0 };
+
+    fn read(&self, i: usize) -> Option<u64> {
+        add(&self.accesses.reads);
+        self.registers.get(i).map(|byte| u64::from(*byte))
+    }
+
+    fn write(&mut self, i: usize, v: u64) -> bool {
+        add(&self.accesses.writes);
+        if i < self.registers.len() && v <= Self::HIGHEST {
+            self.registers[i] = v as u8;
+            true
+        } else {
+            false
+        }
+    }
+}

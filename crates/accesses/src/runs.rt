@@ -1,0 +1,188 @@
+ghost use Rattle.std.specs.Prelude.{◌≡◌, ◌≢◌, ◌≤◌, true, false, None};
+ghost use Rattle.door.specs.Calls.{refusal_of};
+ghost use Rattle.door.specs.States.{is_arm, phase_at};
+ghost use Rattle.door.specs.declared.call.Call.TheVariants.{Admit};
+ghost use Rattle.accesses.specs.Runs.{arm_of, visited, turned, run_of};
+
+use crate::watched::Watched;
+use bank::BitBank;
+use door::Phase;
+use gate::{Gate, HandedBack};
+
+// Spreads the turns over the arms.
+const SPREAD: u64 = 0x9e37_79b9_7f4a_7c15;
+
+// The arm whose turn it is, of n arms.
+fn arm_of(turn: u64, n: usize) -> usize
+    requires { 1 ≤ n }
+    ensures arm { result ≡ arm_of turn n }
+    ensures low { 1 ≤ result }
+    ensures high { result ≤ n }
+{
+    (turn.wrapping_mul(SPREAD) >> 33) as usize % n + 1
+}
+
+// An arm that may be admitted is, and leaves. Meanwhile its pass is confirmed, and not given again.
+fn visit(gate: &mut Watched, arm: usize)
+    requires { refusal_of gate.old.gate (Admit arm) ≡ None }
+    ensures { gate.new.gate ≡ visited gate.old.gate arm }
+{
+    let pass = gate.admit(arm).unwrap();
+    let _ = gate.admit(arm).unwrap_err();
+    let (pass, _) = gate.confirm(pass);
+    gate.leave(pass).unwrap();
+}
+
+// What the phase of an arm asks for.
+fn turn(gate: &mut Watched, arm: usize)
+    requires { is_arm gate.old.gate arm ≡ true }
+    ensures { gate.new.gate ≡ turned gate.old.gate arm }
+{
+    let view = gate.look(arm).unwrap();
+    match view.phase {
+        Phase::I => {
+            let _ = gate.begin(arm);
+        }
+        Phase::D | Phase::W | Phase::X => {
+            let _ = gate.step(arm);
+        }
+        // Whoever has the pass lets the arm go.
+        Phase::F if view.out => {}
+        Phase::F => visit(gate, arm),
+    }
+}
+
+// Calls that only watch.
+pub fn watch(gate: &mut Watched, arm: usize, other: usize)
+    ensures { gate.new.gate ≡ gate.old.gate }
+{
+    let _ = gate.tally(arm, other);
+    let _ = gate.most_passed(arm);
+    let _ = gate.way(arm);
+    let _ = gate.bit();
+    let _ = gate.same();
+}
+
+// A run in which at each turn an arm does what its phase asks for, and is watched.
+#[tactic(auto, using(crate::proofs::Turns::turned_n))]
+pub(crate) fn lively(gate: &mut Watched, turns: u64)
+    requires { 1 ≤ gate.old.gate.n }
+    ensures { gate.new.gate ≡ run_of turns gate.old.gate }
+{
+    let n = gate.arm_count();
+    for t in 0..turns {
+        let arm = arm_of(t, n);
+        turn(gate, arm);
+        watch(gate, arm, n);
+    }
+}
+
+// Calls at an arm that the gate does not have: each is refused.
+fn ask_for(gate: &mut Watched, stranger: usize)
+    requires { is_arm gate.old.gate stranger ≡ false }
+    ensures { gate.new.gate ≡ gate.old.gate }
+{
+    let _ = gate.begin(stranger).unwrap_err();
+    let _ = gate.step(stranger).unwrap_err();
+    let _ = gate.admit(stranger).unwrap_err();
+    let _ = gate.look(stranger).unwrap_err();
+    let _ = gate.tally(1, stranger).unwrap_err();
+    let _ = gate.tally(stranger, 1).unwrap_err();
+    let _ = gate.most_passed(stranger).unwrap_err();
+    let _ = gate.way(stranger).unwrap_err();
+}
+
+// Calls that are not for an arm in this phase: each is refused.
+fn ask_wrongly(gate: &mut Watched, arm: usize, phase: Phase)
+    requires arm { is_arm gate.old.gate arm ≡ true }
+    requires phase { phase ≡ phase_at gate.old.gate arm }
+    ensures { gate.new.gate ≡ gate.old.gate }
+{
+    match phase {
+        Phase::I => {
+            let _ = gate.step(arm).unwrap_err();
+            let _ = gate.admit(arm).unwrap_err();
+            let _ = gate.way(arm).unwrap_err();
+        }
+        Phase::D | Phase::X => {
+            let _ = gate.begin(arm).unwrap_err();
+            let _ = gate.admit(arm).unwrap_err();
+            let _ = gate.way(arm).unwrap_err();
+        }
+        Phase::W => {
+            let _ = gate.begin(arm).unwrap_err();
+            let _ = gate.admit(arm).unwrap_err();
+        }
+        Phase::F => {
+            let _ = gate.begin(arm).unwrap_err();
+            let _ = gate.step(arm).unwrap_err();
+            let _ = gate.way(arm).unwrap_err();
+        }
+    }
+}
+
+// Shows a gate the pass of another one, which is refused: the numbers differ.
+fn show_pass(gate: &mut Watched, other: &mut Gate<BitBank>)
+    requires numbers { gate.old.gate.number ≢ other.old.number }
+    requires inside { refusal_of other.old (Admit 1) ≡ None }
+    ensures gate { gate.new.gate ≡ gate.old.gate }
+    ensures other { other.new ≡ visited other.old 1 }
+{
+    let pass = other.admit(1).unwrap();
+    let (pass, _) = gate.confirm(pass);
+    let HandedBack { pass, refusal: _ } = gate.leave(pass).unwrap_err();
+    other.leave(pass).unwrap();
+}
+
+// A turn of the first arm of another gate. Inside, its pass is shown to the gate that is watched.
+fn turn_of_other(gate: &mut Watched, other: &mut Gate<BitBank>)
+    requires arm { is_arm other.old 1 ≡ true }
+    requires numbers { gate.old.gate.number ≢ other.old.number }
+    ensures gate { gate.new.gate ≡ gate.old.gate }
+    ensures other { other.new ≡ turned other.old 1 }
+{
+    let view = other.look(1).unwrap();
+    match view.phase {
+        Phase::I => {
+            let _ = other.begin(1);
+        }
+        Phase::D | Phase::W | Phase::X => {
+            let _ = other.step(1);
+        }
+        // Whoever has the pass lets the arm go.
+        Phase::F if view.out => {}
+        Phase::F => show_pass(gate, other),
+    }
+}
+
+// A turn that begins with calls that are refused: at arms that the gate does not have, at the arm whose turn it is,
+// and by the pass of another gate.
+fn turn_after_refusals(gate: &mut Watched, other: &mut Gate<BitBank>, arm: usize)
+    requires arm { is_arm gate.old.gate arm ≡ true }
+    requires other { is_arm other.old 1 ≡ true }
+    requires numbers { gate.old.gate.number ≢ other.old.number }
+    ensures gate { gate.new.gate ≡ turned gate.old.gate arm }
+    ensures other { other.new ≡ turned other.old 1 }
+{
+    let n = gate.arm_count();
+    ask_for(gate, 0);
+    ask_for(gate, n + 1);
+    let view = gate.look(arm).unwrap();
+    ask_wrongly(gate, arm, view.phase);
+    turn_of_other(gate, other);
+    turn(gate, arm);
+}
+
+// A run of such turns. It leads where a lively run does.
+pub(crate) fn refused(gate: &mut Watched, other: &mut Gate<BitBank>, turns: u64)
+    requires arms { 1 ≤ gate.old.gate.n }
+    requires others { 1 ≤ other.old.n }
+    requires numbers { gate.old.gate.number ≢ other.old.number }
+    ensures { gate.new.gate ≡ run_of turns gate.old.gate }
+{
+    let n = gate.arm_count();
+    for t in 0..turns {
+        let arm = arm_of(t, n);
+        turn_after_refusals(gate, other, arm);
+    }
+}

@@ -1,0 +1,211 @@
+#!/usr/bin/env python3
+"""Writes what the program `accesses` must print.
+
+Which call is accepted comes from the simulation of the gate in plant_files.py, and what each costs from the table of
+positions and from the words of docs/GATE.md; nothing is shared with the crates. Usage: python3 tools/access_counts.py
+"""
+import os
+
+from plant_files import Gate
+
+HERE = os.path.join(os.path.dirname(os.path.abspath(__file__)), "..", "crates", "accesses")
+
+# The positions whose one access is a write; every other one that may step reads.
+WRITING = ("D1", "D3", "D4", "D5", "X1", "X2")
+
+KINDS = ("begin", "step", "admit", "confirm", "leave", "look", "tally", "most_passed", "way", "bit", "same")
+
+TURNS = 20000
+
+
+class Cost:
+    def __init__(self):
+        self.calls = self.reads = self.writes = 0
+        self.each = []
+
+    def add(self, reads, writes):
+        self.calls += 1
+        self.reads += reads
+        self.writes += writes
+        self.each.append(reads + writes)
+
+    def __str__(self):
+        if not self.calls:
+            return "0"
+        return "%d reads %d writes %d each %d to %d" % (
+            self.calls, self.reads, self.writes, min(self.each), max(self.each))
+
+
+class Book:
+    def __init__(self):
+        self.costs = {kind: (Cost(), Cost()) for kind in KINDS}
+
+    def add(self, kind, accepted, reads=0, writes=0):
+        self.costs[kind][0 if accepted else 1].add(reads, writes)
+
+    def __str__(self):
+        return "".join("%s: accepted %s; refused %s\n" % ((kind,) + self.costs[kind]) for kind in KINDS)
+
+
+class Watched:
+    """A gate whose calls are put down in a book, each with what it has to cost."""
+
+    def __init__(self, n):
+        self.gate, self.book, self.out = Gate(n), Book(), set()
+
+    def is_arm(self, arm):
+        return 1 <= arm <= self.gate.n
+
+    def begin(self, arm):
+        self.book.add("begin", self.gate.begin(arm))
+
+    def step(self, arm):
+        at = self.gate.at[arm] if self.is_arm(arm) else "I"
+        if self.gate.step(arm):
+            self.book.add("step", True, *((0, 1) if at in WRITING else (1, 0)))
+        else:
+            self.book.add("step", False)
+
+    def admit(self, arm):
+        accepted = self.is_arm(arm) and self.gate.phase(arm) == "F" and arm not in self.out
+        self.book.add("admit", accepted)
+        if accepted:
+            self.out.add(arm)
+        return accepted
+
+    def confirm(self, own, arm):
+        self.book.add("confirm", own and arm in self.out)
+
+    def leave(self, own, arm):
+        accepted = own and arm in self.out
+        self.book.add("leave", accepted)
+        if accepted:
+            self.out.remove(arm)
+            self.gate.leave(arm)
+
+    def look(self, arm):
+        self.book.add("look", self.is_arm(arm))
+
+    def tally(self, arm, other):
+        self.book.add("tally", self.is_arm(arm) and self.is_arm(other))
+
+    def most_passed(self, arm):
+        self.book.add("most_passed", self.is_arm(arm))
+
+    def way(self, arm):
+        accepted = self.is_arm(arm) and self.gate.phase(arm) == "W"
+        self.book.add("way", accepted, 1 if accepted else 0)
+
+    def bit(self):
+        self.book.add("bit", True, 1 if self.gate.n else 0)
+
+    def same(self):
+        self.book.add("same", True, 2 * (3 * self.gate.n + 1) if self.gate.n else 0)
+
+
+def arm_of(turn, n):
+    return (turn * 0x9E3779B97F4A7C15 % 2**64 >> 33) % n + 1
+
+
+def turn(watched, arm):
+    watched.look(arm)
+    phase = watched.gate.phase(arm)
+    if phase == "I":
+        watched.begin(arm)
+    elif phase == "F":
+        watched.admit(arm)
+        watched.admit(arm)
+        watched.confirm(True, arm)
+        watched.leave(True, arm)
+    else:
+        watched.step(arm)
+
+
+def watch(watched, arm, other):
+    watched.tally(arm, other)
+    watched.most_passed(arm)
+    watched.way(arm)
+    watched.bit()
+    watched.same()
+
+
+def ask_for(watched, stranger):
+    watched.begin(stranger)
+    watched.step(stranger)
+    watched.admit(stranger)
+    watched.look(stranger)
+    watched.tally(1, stranger)
+    watched.tally(stranger, 1)
+    watched.most_passed(stranger)
+    watched.way(stranger)
+
+
+def ask_wrongly(watched, arm):
+    phase = watched.gate.phase(arm)
+    calls = {"I": "step admit way", "D": "begin admit way", "X": "begin admit way",
+             "W": "begin admit", "F": "begin step way"}[phase]
+    for call in calls.split():
+        getattr(watched, call)(arm)
+
+
+def turn_of_other(watched, other):
+    phase = other.phase(1)
+    if phase == "I":
+        other.begin(1)
+    elif phase == "F":
+        watched.confirm(False, 1)
+        watched.leave(False, 1)
+        other.leave(1)
+    else:
+        other.step(1)
+
+
+def lively(n, turns):
+    watched = Watched(n)
+    for t in range(turns):
+        arm = arm_of(t, n)
+        turn(watched, arm)
+        watch(watched, arm, n)
+    return watched.book
+
+
+def refused(n, turns):
+    watched, other = Watched(n), Gate(1)
+    for t in range(turns):
+        arm = arm_of(t, n)
+        ask_for(watched, 0)
+        ask_for(watched, n + 1)
+        watched.look(arm)
+        ask_wrongly(watched, arm)
+        turn_of_other(watched, other)
+        turn(watched, arm)
+    return watched.book
+
+
+def making(registers, wanted):
+    """Counts down from the wanted arms, and reads the last register of each count until one is there."""
+    n, cost = min(wanted, 32), Cost()
+    reads = 0
+    while n > 0:
+        reads += 1
+        if 3 * n < registers:
+            break
+        n -= 1
+    cost.add(reads, 3 * n + 1 if n else 0)
+    return "registers %d wanted %d arms %d: making accepted %s; refused 0\n" % (registers, wanted, n, cost)
+
+
+def main():
+    with open(os.path.join(HERE, "stdout"), "w") as out:
+        for registers, wanted in ((97, 1), (97, 3), (97, 32), (97, 1000), (10, 32), (3, 32)):
+            out.write(making(registers, wanted))
+        watched = Watched(0)
+        watch(watched, 1, 1)
+        out.write("no arms\n%s" % watched.book)
+        for n in (1, 3, 32):
+            out.write("arms %d turns %d\n%s" % (n, TURNS, lively(n, TURNS)))
+            out.write("arms %d turns %d with calls that are refused\n%s" % (n, TURNS, refused(n, TURNS)))
+
+
+if __name__ == "__main__":
+    main()
