@@ -1,4 +1,5 @@
-ghost use Rattle.std.specs.Prelude.{◌≡◌, ℕ};
+ghost use Rattle.std.specs.Prelude.{◌≡◌, ℕ, IsTrue, IfOk};
+ghost use Rattle.gate.specs.Gates.{IsGate};
 ghost use Rattle.door.specs.Calls.{after, knows, way_answer, answered, refusal_of};
 ghost use Rattle.door.specs.States.{made, bit_of};
 ghost use Rattle.door.specs.declared.call.Call.TheVariants.{Begin, Step, Admit, Leave};
@@ -7,8 +8,7 @@ ghost use Rattle.gate.specs.Answers.{step_answer, admit_answer, leave_answer, lo
 
 use crate::cost::Costs;
 use crate::counting_bank::{Accesses, Count, CountingBank};
-use door::Phase;
-use door::Refusal;
+use door::{Phase, Refusal};
 use gate::{Gate, HandedBack, Pass, Tally, View};
 use std::rc::Rc;
 
@@ -80,7 +80,8 @@ impl Watched {
     }
 
     pub fn arm_count(&self) -> usize
-        ensures { result ≡ self.now.gate.n }
+        ensures arms { result ≡ self.now.gate.n }
+        ensures gate { IsGate self.now.gate }
     {
         self.gate.arm_count()
     }
@@ -115,6 +116,7 @@ impl Watched {
     pub fn admit(&mut self, arm: usize) -> Result<Pass, Refusal>
         ensures answer { result ≡ admit_answer self.old.gate arm }
         ensures after { self.new.gate ≡ after self.old.gate (Admit arm) }
+        ensures known { IfOk result (λ pass. IsTrue (knows self.new.gate pass.gate pass.arm)) }
     {
         let before = self.accesses.count();
         let answer = self.gate.admit(arm);

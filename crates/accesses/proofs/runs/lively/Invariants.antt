@@ -1,8 +1,7 @@
 use Rattle.std.proofs.Common.{◌≡◌}
-use Rattle.gate.specs.Whole.{whole}
 use Rattle.accesses.specs.Runs.{run_of}
 use Rattle.accesses.proofs.runs.lively.Given as goal
 
 -- so many turns were made
 abbrev pub invariant-loop-t : goal.invariant-loop-t
-invariant-loop-t l = record { turns : whole l.gate.gate ≡ run_of l.t (whole l.initial.gate.gate); arms : l.gate.gate.n ≡ l.initial.gate.gate.n }
+invariant-loop-t l = record { turns : l.gate.gate ≡ run_of l.t l.initial.gate.gate; arms : l.gate.gate.n ≡ l.initial.gate.gate.n }

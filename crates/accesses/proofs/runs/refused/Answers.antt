@@ -1,5 +1,4 @@
 use Rattle.std.proofs.Common.{ap, ◌∙◌}
-use Rattle.gate.specs.Whole.{whole}
 use Rattle.accesses.proofs.Turns.{turned_n, turned_number, run_on}
 use Rattle.accesses.proofs.runs.refused.Goals as goal
 
@@ -7,10 +6,10 @@ pub loop-t-preserved : goal.loop-t-preserved
 loop-t-preserved c =
     let turned = c.turn_after_refusals.ensures in
     let before = c.loop-t.invariant in
-    let gate = whole c.loop-t.gate.gate in
-    let other = whole c.loop-t.other in
+    let gate = c.loop-t.gate.gate in
+    let other = c.loop-t.other in
     record {
-      turns = run_on c.loop-t.t c.arm_count-n.result _ _ _ _ before.turns c.arm_count-n.ensures c.arm_of-arm.ensures.arm turned.gate;
+      turns = run_on c.loop-t.t c.arm_count-n.result _ _ _ _ before.turns c.arm_count-n.ensures.arms c.arm_of-arm.ensures.arm turned.gate;
       arms = ap (λ s. s.n) turned.gate ∙ turned_n gate c.arm_of-arm.result ∙ before.arms;
       number = ap (λ s. s.number) turned.gate ∙ turned_number gate c.arm_of-arm.result ∙ before.number;
       others = ap (λ s. s.n) turned.other ∙ turned_n other 1 ∙ before.others;

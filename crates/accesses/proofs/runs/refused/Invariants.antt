@@ -1,5 +1,4 @@
 use Rattle.std.proofs.Common.{◌≡◌}
-use Rattle.gate.specs.Whole.{whole}
 use Rattle.accesses.specs.Runs.{run_of}
 use Rattle.accesses.proofs.runs.refused.Given as goal
 
@@ -7,7 +6,7 @@ use Rattle.accesses.proofs.runs.refused.Given as goal
 abbrev pub invariant-loop-t : goal.invariant-loop-t
 invariant-loop-t l =
     record {
-      turns : whole l.gate.gate ≡ run_of l.t (whole l.initial.gate.gate);
+      turns : l.gate.gate ≡ run_of l.t l.initial.gate.gate;
       arms : l.gate.gate.n ≡ l.initial.gate.gate.n;
       number : l.gate.gate.number ≡ l.initial.gate.gate.number;
       others : l.other.n ≡ l.initial.other.n;
