@@ -67,11 +67,13 @@ abbrev pub play_memory : ℕ → List ℕ → List ℕ → Result Contents PlayF
 play_memory high regs memory (Ok c) = overwritten memory (play_text high regs c)
 play_memory high regs memory (Err fault) = memory
 
--- what a play comes to, over a bank that held regs and with report memory that held memory:
--- what it answers, and what bank and memory then hold
+-- what a play comes to, over a bank of registers and with report memory: what it answers, and what both then hold
 pub record IsPlayed (high : ℕ) (regs file memory : List ℕ) (answer_is : Result ℕ PlayFault) (regs_are memory_is : List ℕ) : Type 0 where
+  -- the length of the report, or the fault
   pub answer : answer_is ≡ play_answer high regs (playable file (length memory))
+  -- the registers after the orders, or as they were
   pub registers : regs_are ≡ play_regs high regs (playable file (length memory))
+  -- the report at the start of the memory, or the memory as it was
   pub report : memory_is ≡ play_memory high regs memory (playable file (length memory))
   -- a report always fits the least memory
   pub fits : IfOk answer_is (λ n. n ≤ report_room)
