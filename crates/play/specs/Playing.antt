@@ -67,12 +67,16 @@ abbrev pub play_memory : ℕ → ℕ → List ℕ → List ℕ → Result Conten
 play_memory lent high regs memory (Ok c) = overwritten memory (play_text lent high regs c)
 play_memory lent high regs memory (Err fault) = memory
 
--- what a play comes to, over a bank that writes the memory lent and held regs, and with report memory that held memory:
--- what it answers, over which memory the bank then is, and what bank and report memory then hold
+-- what a play comes to, over a bank (which borrowed memory it writes, its highest value, its registers) and with report memory:
+-- what it answers, and what both then are
 pub record IsPlayed (lent high : ℕ) (regs file memory : List ℕ) (answer_is : Result ℕ PlayFault) (lent_is : ℕ) (regs_are memory_is : List ℕ) : Type 0 where
+  -- the length of the report, or the fault
   pub answer : answer_is ≡ play_answer lent high regs (playable file (length memory))
+  -- the bank is over the memory that it was over
   pub same_bank : lent_is ≡ lent
+  -- the registers after the orders, or as they were
   pub registers : regs_are ≡ play_regs lent high regs (playable file (length memory))
+  -- the report at the start of the memory, or the memory as it was
   pub report : memory_is ≡ play_memory lent high regs memory (playable file (length memory))
   -- a report always fits the least memory
   pub fits : IfOk answer_is (λ n. n ≤ report_room)

@@ -87,7 +87,8 @@ pub(crate) fn put_report<B: Bank>(
 ) -> usize
     requires { report_room ≤ length memory.old }
     ensures answer { result ≡ length (report_text gate.now orders refused) }
-    ensures after { memory.new ≡ overwritten memory.old (report_text gate.now orders refused) }
+    ensures after { memory.new
+        ≡ overwritten memory.old (report_text gate.now orders refused) }
     ensures fits { result ≤ report_room }
 {
     let mut page = ArrayString::<PAGE_ROOM>::new();
@@ -99,7 +100,8 @@ pub(crate) fn put_report<B: Bank>(
 }
 
 /// Puts the report of a gate after so many orders, of which some were refused, at the start of the memory,
-/// and answers its length. With fewer than 1,024 bytes it answers that the memory is short, and leaves it as it was.
+/// and answers its length.
+/// With fewer than 1,024 bytes it answers that the memory is short, and leaves it as it was.
 pub fn report<B: Bank>(
     gate: &Gate<B>,
     orders: usize,

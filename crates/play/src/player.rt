@@ -73,7 +73,8 @@ fn ready(file: &[u8], room: usize) -> Result<Schedule<'_>, PlayFault>
 #[tactic(auto, using(crate::proofs::Lent::obeyed_all_lent))]
 fn perform<B: Bank>(file: &[u8], bank: B, memory: &mut [u8], guard: &Service) -> Played<B>
     requires { guard.now.byte.now ≡ 1 }
-    ensures { IsPlayed (B.memory bank) B.HIGHEST (B.values bank) file.now memory.old result.answer (B.memory result.bank) (B.values result.bank) memory.new }
+    ensures { IsPlayed (B.memory bank) B.HIGHEST (B.values bank) file.now memory.old
+        result.answer (B.memory result.bank) (B.values result.bank) memory.new }
 {
     let schedule = match ready(file, memory.len()) {
         Ok(schedule) => schedule,
@@ -95,7 +96,8 @@ fn perform<B: Bank>(file: &[u8], bank: B, memory: &mut [u8], guard: &Service) ->
 /// Plays a file on gate 0 over a bank, puts the report at the start of the memory, and hands the bank back.
 /// The file is gone through whole first: a fault leaves bank and memory as they were. The service byte reads 1 meanwhile.
 pub fn play<B: Bank>(file: &[u8], bank: B, memory: &mut [u8], service: &mut u8) -> Played<B>
-    ensures played { IsPlayed (B.memory bank) B.HIGHEST (B.values bank) file.now memory.old result.answer (B.memory result.bank) (B.values result.bank) memory.new }
+    ensures played { IsPlayed (B.memory bank) B.HIGHEST (B.values bank) file.now memory.old
+        result.answer (B.memory result.bank) (B.values result.bank) memory.new }
     ensures restored { service.new ≡ service.old }
 {
     let guard = Service::start(service);

@@ -7,6 +7,7 @@ use crate::parts::order_at;
 use std::marker::Model;
 
 /// The orders of a schedule that are left, in the order of its file.
+// The file has no fault from the place on, where the order of this count stands.
 #[derive(Drop)]
 pub struct Orders<'a> {
     file: &'a [u8],

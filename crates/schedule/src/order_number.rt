@@ -1,7 +1,7 @@
 ghost use Rattle.std.specs.Prelude.{◌≡◌};
 ghost use Rattle.schedule.specs.Orders.{order_number, order_of};
 
-/// What an arm is to do. The arm may be any number: a file has arms up to 4,095, and a gate refuses those that it has not.
+/// What an arm is to do. A file has arms up to 4,095; whether a gate has the arm is found out in a play.
 #[derive(Clone, Copy, Debug, PartialEq, Eq)]
 pub enum Order {
     Begin(u16),
