@@ -1,21 +1,35 @@
 #!/usr/bin/env python3
 """Writes what the program `accesses` must print.
 
-Which call is accepted comes from the simulation of the gate in plant_files.py, and what each costs from the table of
-positions and from the words of docs/GATE.md; nothing is shared with the crates. Usage: python3 tools/access_counts.py
+Which call is accepted comes from the simulation of a gate of either door in plant_files.py, and what each costs from the tables
+of positions and from the words of docs/GATE.md; nothing is shared with the crates. Usage: python3 tools/access_counts.py
 """
 import os
 
-from plant_files import Gate
+from plant_files import FourValuedGate, Gate
 
 HERE = os.path.join(os.path.dirname(os.path.abspath(__file__)), "..", "crates", "accesses")
-
-# The positions whose one access is a write; every other one that may step reads.
-WRITING = ("D1", "D3", "D4", "D5", "X1", "X2")
 
 KINDS = ("begin", "step", "admit", "confirm", "leave", "look", "tally", "most_passed", "way", "bit", "same")
 
 TURNS = 20000
+
+
+class FirstDoor(Gate):
+    # The positions whose one access is a write; every other one that may step reads.
+    WRITING = ("D1", "D3", "D4", "D5", "X1", "X2")
+
+    @staticmethod
+    def room(n):
+        return 3 * n + 1
+
+
+class SecondDoor(FourValuedGate):
+    WRITING = ("D1", "D3", "X1", "X2")
+
+    @staticmethod
+    def room(n):
+        return n + 1
 
 
 class Cost:
@@ -48,10 +62,10 @@ class Book:
 
 
 class Watched:
-    """A gate whose calls are put down in a book, each with what it has to cost."""
+    """A gate through a door whose calls are put down in a book, each with what it has to cost."""
 
-    def __init__(self, n):
-        self.gate, self.book, self.out = Gate(n), Book(), set()
+    def __init__(self, door, n):
+        self.gate, self.book, self.out = door(n), Book(), set()
 
     def is_arm(self, arm):
         return 1 <= arm <= self.gate.n
@@ -62,7 +76,7 @@ class Watched:
     def step(self, arm):
         at = self.gate.at[arm] if self.is_arm(arm) else "I"
         if self.gate.step(arm):
-            self.book.add("step", True, *((0, 1) if at in WRITING else (1, 0)))
+            self.book.add("step", True, *((0, 1) if at in self.gate.WRITING else (1, 0)))
         else:
             self.book.add("step", False)
 
@@ -100,7 +114,7 @@ class Watched:
         self.book.add("bit", True, 1 if self.gate.n else 0)
 
     def same(self):
-        self.book.add("same", True, 2 * (3 * self.gate.n + 1) if self.gate.n else 0)
+        self.book.add("same", True, 2 * self.gate.room(self.gate.n) if self.gate.n else 0)
 
 
 def arm_of(turn, n):
@@ -160,8 +174,8 @@ def turn_of_other(watched, other):
         other.step(1)
 
 
-def lively(n, turns):
-    watched = Watched(n)
+def lively(door, n, turns):
+    watched = Watched(door, n)
     for t in range(turns):
         arm = arm_of(t, n)
         turn(watched, arm)
@@ -169,8 +183,8 @@ def lively(n, turns):
     return watched.book
 
 
-def refused(n, turns):
-    watched, other = Watched(n), Gate(1)
+def refused(door, n, turns):
+    watched, other = Watched(door, n), FirstDoor(1)
     for t in range(turns):
         arm = arm_of(t, n)
         ask_for(watched, 0)
@@ -182,29 +196,35 @@ def refused(n, turns):
     return watched.book
 
 
-def making(registers, wanted):
+def making(door, registers, wanted):
     """Counts down from the wanted arms, and reads the last register of each count until one is there."""
     n, cost = min(wanted, 32), Cost()
     reads = 0
     while n > 0:
         reads += 1
-        if 3 * n < registers:
+        if door.room(n) <= registers:
             break
         n -= 1
-    cost.add(reads, 3 * n + 1 if n else 0)
+    cost.add(reads, door.room(n) if n else 0)
     return "registers %d wanted %d arms %d: making accepted %s; refused 0\n" % (registers, wanted, n, cost)
 
 
+def runs(door, makings):
+    text = "".join(making(door, registers, wanted) for registers, wanted in makings)
+    watched = Watched(door, 0)
+    watch(watched, 1, 1)
+    text += "no arms\n%s" % watched.book
+    for n in (1, 3, 32):
+        text += "arms %d turns %d\n%s" % (n, TURNS, lively(door, n, TURNS))
+        text += "arms %d turns %d with calls that are refused\n%s" % (n, TURNS, refused(door, n, TURNS))
+    return text
+
+
 def main():
+    first = ((97, 1), (97, 3), (97, 32), (97, 1000), (10, 32), (3, 32))
+    second = first + ((1, 32),)
     with open(os.path.join(HERE, "stdout"), "w") as out:
-        for registers, wanted in ((97, 1), (97, 3), (97, 32), (97, 1000), (10, 32), (3, 32)):
-            out.write(making(registers, wanted))
-        watched = Watched(0)
-        watch(watched, 1, 1)
-        out.write("no arms\n%s" % watched.book)
-        for n in (1, 3, 32):
-            out.write("arms %d turns %d\n%s" % (n, TURNS, lively(n, TURNS)))
-            out.write("arms %d turns %d with calls that are refused\n%s" % (n, TURNS, refused(n, TURNS)))
+        out.write("%sthrough the four-valued door\n%s" % (runs(FirstDoor, first), runs(SecondDoor, second)))
 
 
 if __name__ == "__main__":

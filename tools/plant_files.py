@@ -11,7 +11,7 @@ HERE = os.path.join(os.path.dirname(os.path.abspath(__file__)), "..", "crates", 
 
 
 class Gate:
-    """The first door, by its table of positions."""
+    """The three-bit door, by its table of positions."""
 
     def __init__(self, n):
         self.n = n
@@ -99,6 +99,49 @@ class Gate:
         return True
 
 
+class FourValuedGate(Gate):
+    """The four-valued door, by its table of positions: D1 to D3, W1 to W5, X1 and X2 in the order of the table."""
+
+    def __init__(self, n):
+        super().__init__(n)
+        self.state = [3] * (n + 1)
+
+    def step(self, i):
+        if not 1 <= i <= self.n or self.phase(i) in "IF":
+            return False
+        at, s, j = self.at[i], self.side[i], self.index[i]
+        if at == "D1":
+            self.state[i], self.at[i] = 2, "D2"
+        elif at == "D2":
+            self.side[i], self.at[i] = self.group, "D3"
+        elif at == "D3":
+            self.state[i], self.at[i], self.index[i] = s, "W1", 1
+            self.row[i] = [0] * (self.n + 1)
+        elif at == "W1":
+            if self.group != s:
+                self.inside(i)
+            else:
+                self.at[i] = "W2"
+        elif at == "W2":
+            self.at[i] = "W2" if self.state[j] == 2 else "W3"
+        elif at in ("W3", "W4"):
+            if self.state[j] != 1 - s:
+                self.onward(i)
+            else:
+                self.at[i] = "W4" if at == "W3" else "W5"
+        elif at == "W5":
+            if self.group != s:
+                self.onward(i)
+            else:
+                self.at[i] = "W4"
+        elif at == "X1":
+            self.group, self.at[i] = 1 - s, "X2"
+        elif at == "X2":
+            self.state[i], self.at[i], self.side[i] = 3, "I", None
+            self.row[i] = [0] * (self.n + 1)
+        return True
+
+
 def number(k):
     return bytes([k]) if k < 128 else bytes([k % 128 + 128, k // 128])
 
@@ -138,12 +181,12 @@ def parse(data):
     return (arms, orders), None
 
 
-def play(data):
+def play(data, kind=Gate):
     said, line = parse(data)
     if said is None:
         return line
     arms, orders = said
-    gate, refused = Gate(arms), 0
+    gate, refused = kind(arms), 0
     for kind, arm in orders:
         if not (gate.begin, gate.step, gate.leave)[kind](arm):
             refused += 1
@@ -177,9 +220,9 @@ def exactly(seed, arms, size):
     return file_of(arms, orders + [(1, 1)] * (size - total))
 
 
-def past_a_waiting_arm():
+def past_a_waiting_arm(kind=Gate):
     """Arm 2 goes inside twice past arm 1, which ended its doorway after arm 3 had left."""
-    gate, orders = Gate(3), []
+    gate, orders = kind(3), []
 
     def do(kind, arm):
         orders.append((kind, arm))
@@ -233,7 +276,10 @@ FILES = [
 
 
 # How many edge cases the crate proves.
-EDGE_CASES = 32
+EDGE_CASES = 50
+
+# The file that the program plays through the four-valued door.
+TWICE_PAST = past_a_waiting_arm(FourValuedGate)
 
 
 def main():
@@ -247,6 +293,7 @@ def main():
         shown += "%s: %d bytes\n%s" % (name, len(data), text)
         again = "none" if text.startswith("fault") else "same"
         shown += "over bytes: same\nmemory of 1023: %s\nwritten again: %s\n" % (short, again)
+    shown += "through the four-valued door: %d bytes\n%s" % (len(TWICE_PAST), play(TWICE_PAST, FourValuedGate))
     with open(os.path.join(HERE, "stdout"), "w") as out:
         out.write(shown)
     with open(os.path.join(HERE, "args"), "w") as out:

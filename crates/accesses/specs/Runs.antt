@@ -2,30 +2,32 @@
 use Rattle.std.specs.Prelude.{ℕ, zero, suc, ◌+◌, ◌*◌, ◌/◌, ◌%◌, ◌^◌}
 use Rattle.door.specs.Calls.{after, refusal_of, unless}
 use Rattle.door.specs.States.{State, phase_at}
+use Rattle.door.specs.Table.{Table}
 use Rattle.door.specs.declared.call.Call.TheVariants.{Begin as begin, Step as step, Admit as admit, Leave as leave}
-use Rattle.door.specs.declared.position.Phase.{Phase}
-use Rattle.door.specs.declared.position.Phase.TheVariants as P
+use Rattle.door.specs.declared.phase.Phase.{Phase}
+use Rattle.door.specs.declared.phase.Phase.TheVariants as P
 
 -- the arm of a turn, of n arms; what lies below the highest 31 bits of a product is cut off
 abbrev pub arm_of : ℕ → ℕ → ℕ
 arm_of turn n = ((turn * 0x9e3779b97f4a7c15) % 2 ^ 64 / 2 ^ 33) % n + 1
 
--- an arm that may be admitted is, and leaves
-abbrev pub visited : State → ℕ → State
-visited s i = unless (refusal_of s (admit i)) (after (after s (admit i)) (leave s.number i)) s
+module _ {At : Type 0} (door : Table At) where
+  -- an arm that may be admitted is, and leaves
+  abbrev pub visited : State At → ℕ → State At
+  visited s i = unless (refusal_of door s (admit i)) (after door (after door s (admit i)) (leave s.number i)) s
 
--- what the phase of an arm asks for is done
-abbrev pub turned_in : Phase → State → ℕ → State
-turned_in P.I s i = after s (begin i)
-turned_in P.D s i = after s (step i)
-turned_in P.W s i = after s (step i)
-turned_in P.F s i = visited s i
-turned_in P.X s i = after s (step i)
+  -- what the phase of an arm asks for is done
+  abbrev pub turned_in : Phase → State At → ℕ → State At
+  turned_in P.I s i = after door s (begin i)
+  turned_in P.D s i = after door s (step i)
+  turned_in P.W s i = after door s (step i)
+  turned_in P.F s i = visited s i
+  turned_in P.X s i = after door s (step i)
 
-abbrev pub turned : State → ℕ → State
-turned s i = turned_in (phase_at s i) s i
+  abbrev pub turned : State At → ℕ → State At
+  turned s i = turned_in (phase_at door s i) s i
 
--- the first turns of a run
-abbrev pub run_of : ℕ → State → State
-run_of zero s = s
-run_of (suc t) s = turned (run_of t s) (arm_of t s.n)
+  -- the first turns of a run
+  abbrev pub run_of : ℕ → State At → State At
+  run_of zero s = s
+  run_of (suc t) s = turned (run_of t s) (arm_of t s.n)

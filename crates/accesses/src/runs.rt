@@ -2,11 +2,13 @@ ghost use Rattle.std.specs.Prelude.{◌≡◌, ◌≢◌, ◌≤◌, true, false
 ghost use Rattle.door.specs.Calls.{refusal_of};
 ghost use Rattle.door.specs.States.{is_arm, phase_at};
 ghost use Rattle.door.specs.declared.call.Call.TheVariants.{Admit};
+ghost use Rattle.three_bits.specs.Positions.{three_bits};
 ghost use Rattle.accesses.specs.Runs.{arm_of, visited, turned, run_of};
 
 use crate::watched::Watched;
 use bank::BitBank;
 use door::Phase;
+use doors::{Door, ThreeBits};
 use gate::{Gate, HandedBack};
 
 // Spreads the turns over the arms.
@@ -23,9 +25,9 @@ fn arm_of(turn: u64, n: usize) -> usize
 }
 
 // An arm that may be admitted is, and leaves. Meanwhile its pass is confirmed, and not given again.
-fn visit(gate: &mut Watched, arm: usize)
-    requires { refusal_of gate.old.gate (Admit arm) ≡ None }
-    ensures { gate.new.gate ≡ visited gate.old.gate arm }
+fn visit<D: Door>(gate: &mut Watched<D>, arm: usize)
+    requires { refusal_of D.table gate.old.gate (Admit arm) ≡ None }
+    ensures { gate.new.gate ≡ visited D.table gate.old.gate arm }
 {
     let pass = gate.admit(arm).unwrap();
     let _ = gate.admit(arm).unwrap_err();
@@ -34,9 +36,9 @@ fn visit(gate: &mut Watched, arm: usize)
 }
 
 // What the phase of an arm asks for.
-fn turn(gate: &mut Watched, arm: usize)
+fn turn<D: Door>(gate: &mut Watched<D>, arm: usize)
     requires { is_arm gate.old.gate arm ≡ true }
-    ensures { gate.new.gate ≡ turned gate.old.gate arm }
+    ensures { gate.new.gate ≡ turned D.table gate.old.gate arm }
 {
     let view = gate.look(arm).unwrap();
     match view.phase {
@@ -53,7 +55,7 @@ fn turn(gate: &mut Watched, arm: usize)
 }
 
 // Calls that only watch.
-pub fn watch(gate: &mut Watched, arm: usize, other: usize)
+pub fn watch<D: Door>(gate: &mut Watched<D>, arm: usize, other: usize)
     ensures { gate.new.gate ≡ gate.old.gate }
 {
     let _ = gate.tally(arm, other);
@@ -65,9 +67,9 @@ pub fn watch(gate: &mut Watched, arm: usize, other: usize)
 
 // A run in which at each turn an arm does what its phase asks for, and is watched.
 #[tactic(auto, using(crate::proofs::Turns::turned_n))]
-pub(crate) fn lively(gate: &mut Watched, turns: u64)
+pub(crate) fn lively<D: Door>(gate: &mut Watched<D>, turns: u64)
     requires { 1 ≤ gate.old.gate.n }
-    ensures { gate.new.gate ≡ run_of turns gate.old.gate }
+    ensures { gate.new.gate ≡ run_of D.table turns gate.old.gate }
 {
     let n = gate.arm_count();
     for t in 0..turns {
@@ -78,7 +80,7 @@ pub(crate) fn lively(gate: &mut Watched, turns: u64)
 }
 
 // Calls at an arm that the gate does not have: each is refused.
-fn ask_for(gate: &mut Watched, stranger: usize)
+fn ask_for<D: Door>(gate: &mut Watched<D>, stranger: usize)
     requires { is_arm gate.old.gate stranger ≡ false }
     ensures { gate.new.gate ≡ gate.old.gate }
 {
@@ -93,9 +95,9 @@ fn ask_for(gate: &mut Watched, stranger: usize)
 }
 
 // Calls that are not for an arm in this phase: each is refused.
-fn ask_wrongly(gate: &mut Watched, arm: usize, phase: Phase)
+fn ask_wrongly<D: Door>(gate: &mut Watched<D>, arm: usize, phase: Phase)
     requires arm { is_arm gate.old.gate arm ≡ true }
-    requires phase { phase ≡ phase_at gate.old.gate arm }
+    requires phase { phase ≡ phase_at D.table gate.old.gate arm }
     ensures { gate.new.gate ≡ gate.old.gate }
 {
     match phase {
@@ -122,11 +124,11 @@ fn ask_wrongly(gate: &mut Watched, arm: usize, phase: Phase)
 }
 
 // Shows a gate the pass of another one, which is refused: the numbers differ.
-fn show_pass(gate: &mut Watched, other: &mut Gate<BitBank>)
+fn show_pass<D: Door>(gate: &mut Watched<D>, other: &mut Gate<BitBank, ThreeBits>)
     requires numbers { gate.old.gate.number ≢ other.old.number }
-    requires inside { refusal_of other.old (Admit 1) ≡ None }
+    requires inside { refusal_of three_bits other.old (Admit 1) ≡ None }
     ensures gate { gate.new.gate ≡ gate.old.gate }
-    ensures other { other.new ≡ visited other.old 1 }
+    ensures other { other.new ≡ visited three_bits other.old 1 }
 {
     let pass = other.admit(1).unwrap();
     let (pass, _) = gate.confirm(pass);
@@ -135,11 +137,11 @@ fn show_pass(gate: &mut Watched, other: &mut Gate<BitBank>)
 }
 
 // A turn of the first arm of another gate. Inside, its pass is shown to the gate that is watched.
-fn turn_of_other(gate: &mut Watched, other: &mut Gate<BitBank>)
+fn turn_of_other<D: Door>(gate: &mut Watched<D>, other: &mut Gate<BitBank, ThreeBits>)
     requires arm { is_arm other.old 1 ≡ true }
     requires numbers { gate.old.gate.number ≢ other.old.number }
     ensures gate { gate.new.gate ≡ gate.old.gate }
-    ensures other { other.new ≡ turned other.old 1 }
+    ensures other { other.new ≡ turned three_bits other.old 1 }
 {
     let view = other.look(1).unwrap();
     match view.phase {
@@ -157,12 +159,16 @@ fn turn_of_other(gate: &mut Watched, other: &mut Gate<BitBank>)
 
 // A turn that begins with calls that are refused: at arms that the gate does not have, at the arm whose turn it is,
 // and by the pass of another gate.
-fn turn_after_refusals(gate: &mut Watched, other: &mut Gate<BitBank>, arm: usize)
+fn turn_after_refusals<D: Door>(
+    gate: &mut Watched<D>,
+    other: &mut Gate<BitBank, ThreeBits>,
+    arm: usize,
+)
     requires arm { is_arm gate.old.gate arm ≡ true }
     requires other { is_arm other.old 1 ≡ true }
     requires numbers { gate.old.gate.number ≢ other.old.number }
-    ensures gate { gate.new.gate ≡ turned gate.old.gate arm }
-    ensures other { other.new ≡ turned other.old 1 }
+    ensures gate { gate.new.gate ≡ turned D.table gate.old.gate arm }
+    ensures other { other.new ≡ turned three_bits other.old 1 }
 {
     let n = gate.arm_count();
     ask_for(gate, 0);
@@ -174,11 +180,15 @@ fn turn_after_refusals(gate: &mut Watched, other: &mut Gate<BitBank>, arm: usize
 }
 
 // A run of such turns. It leads where a lively run does.
-pub(crate) fn refused(gate: &mut Watched, other: &mut Gate<BitBank>, turns: u64)
+pub(crate) fn refused<D: Door>(
+    gate: &mut Watched<D>,
+    other: &mut Gate<BitBank, ThreeBits>,
+    turns: u64,
+)
     requires arms { 1 ≤ gate.old.gate.n }
     requires others { 1 ≤ other.old.n }
     requires numbers { gate.old.gate.number ≢ other.old.number }
-    ensures { gate.new.gate ≡ run_of turns gate.old.gate }
+    ensures { gate.new.gate ≡ run_of D.table turns gate.old.gate }
 {
     let n = gate.arm_count();
     for t in 0..turns {

@@ -3,12 +3,13 @@ ghost use Rattle.gate.specs.Gates.{IsGate};
 ghost use Rattle.door.specs.Calls.{after, knows, way_answer, answered, refusal_of};
 ghost use Rattle.door.specs.States.{made, bit_of};
 ghost use Rattle.door.specs.declared.call.Call.TheVariants.{Begin, Step, Admit, Leave};
-ghost use Rattle.door.specs.declared.position.Phase.TheVariants as P;
+ghost use Rattle.door.specs.declared.phase.Phase.TheVariants as P;
 ghost use Rattle.gate.specs.Answers.{step_answer, admit_answer, leave_answer, look_answer, tally_answer, most_answer};
 
 use crate::cost::Costs;
 use crate::counting_bank::{Accesses, Count, CountingBank};
 use door::{Phase, Refusal};
+use doors::Door;
 use gate::{Gate, HandedBack, Pass, Tally, View};
 use std::rc::Rc;
 
@@ -51,19 +52,24 @@ impl Book {
 
 // A gate over a bank that counts, and the book of what its calls cost. Each call answers what the gate's own does.
 #[derive(Drop)]
-pub struct Watched {
-    gate: Gate<CountingBank>,
+pub struct Watched<D: Door> {
+    gate: Gate<CountingBank, D>,
     accesses: Rc<Accesses>,
     book: Book,
 }
 
-impl Watched {
+impl<D: Door> Watched<D> {
     // Makes a gate over a bank whose accesses are counted in these cells.
-    pub fn make(bank: CountingBank, accesses: Rc<Accesses>, number: u16, wanted: usize) -> Watched
-        ensures { result.gate ≡ made 0 255 number wanted bank.registers.items }
+    pub fn make(
+        bank: CountingBank,
+        accesses: Rc<Accesses>,
+        number: u16,
+        wanted: usize,
+    ) -> Watched<D>
+        ensures { result.gate ≡ made D.table 0 255 number wanted bank.registers.items }
     {
         let before = accesses.count();
-        let gate = Gate::make(bank, number, wanted);
+        let gate = Gate::<CountingBank, D>::make(bank, number, wanted);
         let mut book = Book::empty();
         book.making.add(true, accesses.count().since(before));
         Watched {
@@ -81,7 +87,7 @@ impl Watched {
 
     pub fn arm_count(&self) -> usize
         ensures arms { result ≡ self.now.gate.n }
-        ensures gate { IsGate self.now.gate }
+        ensures gate { IsGate D.table self.now.gate }
     {
         self.gate.arm_count()
     }
@@ -92,8 +98,8 @@ impl Watched {
     }
 
     pub fn begin(&mut self, arm: usize) -> Result<Phase, Refusal>
-        ensures answer { result ≡ answered (refusal_of self.old.gate (Begin arm)) P.D }
-        ensures after { self.new.gate ≡ after self.old.gate (Begin arm) }
+        ensures answer { result ≡ answered (refusal_of D.table self.old.gate (Begin arm)) P.D }
+        ensures after { self.new.gate ≡ after D.table self.old.gate (Begin arm) }
     {
         let before = self.accesses.count();
         let answer = self.gate.begin(arm);
@@ -103,8 +109,8 @@ impl Watched {
     }
 
     pub fn step(&mut self, arm: usize) -> Result<Phase, Refusal>
-        ensures answer { result ≡ step_answer self.old.gate arm }
-        ensures after { self.new.gate ≡ after self.old.gate (Step arm) }
+        ensures answer { result ≡ step_answer D.table self.old.gate arm }
+        ensures after { self.new.gate ≡ after D.table self.old.gate (Step arm) }
     {
         let before = self.accesses.count();
         let answer = self.gate.step(arm);
@@ -114,9 +120,9 @@ impl Watched {
     }
 
     pub fn admit(&mut self, arm: usize) -> Result<Pass, Refusal>
-        ensures answer { result ≡ admit_answer self.old.gate arm }
-        ensures after { self.new.gate ≡ after self.old.gate (Admit arm) }
-        ensures known { IfOk result (λ pass. IsTrue (knows self.new.gate pass.gate pass.arm)) }
+        ensures answer { result ≡ admit_answer D.table self.old.gate arm }
+        ensures after { self.new.gate ≡ after D.table self.old.gate (Admit arm) }
+        ensures known { IfOk result (λ pass. IsTrue (knows D.table self.new.gate pass.gate pass.arm)) }
     {
         let before = self.accesses.count();
         let answer = self.gate.admit(arm);
@@ -127,7 +133,7 @@ impl Watched {
 
     pub fn confirm(&mut self, pass: Pass) -> (Pass, bool)
         ensures same { result.0 ≡ pass }
-        ensures answer { result.1 ≡ knows self.old.gate pass.gate pass.arm }
+        ensures answer { result.1 ≡ knows D.table self.old.gate pass.gate pass.arm }
         ensures after { self.new.gate ≡ self.old.gate }
     {
         let before = self.accesses.count();
@@ -138,8 +144,8 @@ impl Watched {
     }
 
     pub fn leave(&mut self, pass: Pass) -> Result<Phase, HandedBack>
-        ensures answer { result ≡ leave_answer self.old.gate pass }
-        ensures after { self.new.gate ≡ after self.old.gate (Leave pass.gate pass.arm) }
+        ensures answer { result ≡ leave_answer D.table self.old.gate pass }
+        ensures after { self.new.gate ≡ after D.table self.old.gate (Leave pass.gate pass.arm) }
     {
         let before = self.accesses.count();
         let answer = self.gate.leave(pass);
@@ -149,7 +155,7 @@ impl Watched {
     }
 
     pub fn look(&mut self, arm: usize) -> Result<View, Refusal>
-        ensures answer { result ≡ look_answer self.old.gate arm }
+        ensures answer { result ≡ look_answer D.table self.old.gate arm }
         ensures after { self.new.gate ≡ self.old.gate }
     {
         let before = self.accesses.count();
@@ -160,7 +166,7 @@ impl Watched {
     }
 
     pub fn tally(&mut self, arm: usize, other: usize) -> Result<Tally, Refusal>
-        ensures answer { result ≡ tally_answer self.old.gate arm other }
+        ensures answer { result ≡ tally_answer D.table self.old.gate arm other }
         ensures after { self.new.gate ≡ self.old.gate }
     {
         let before = self.accesses.count();
@@ -171,7 +177,7 @@ impl Watched {
     }
 
     pub fn most_passed(&mut self, arm: usize) -> Result<u8, Refusal>
-        ensures answer { result ≡ most_answer self.old.gate arm }
+        ensures answer { result ≡ most_answer D.table self.old.gate arm }
         ensures after { self.new.gate ≡ self.old.gate }
     {
         let before = self.accesses.count();
@@ -182,7 +188,7 @@ impl Watched {
     }
 
     pub fn way(&mut self, arm: usize) -> Result<bool, Refusal>
-        ensures answer { result ≡ way_answer self.old.gate arm }
+        ensures answer { result ≡ way_answer D.table self.old.gate arm }
         ensures after { self.new.gate ≡ self.old.gate }
     {
         let before = self.accesses.count();

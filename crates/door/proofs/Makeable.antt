@@ -1,48 +1,44 @@
--- The access of an accepted step can be made: on a gate that calls lead to, its register is there and its value is taken.
-use Rattle.std.proofs.Common.{◌≡◌, ℕ, ◌≤◌, not, ◌&&◌, T, IsTrue, length, None, sym, subst, ⊎_elim, arith}
+-- The access of an accepted step can be made, where the door's accesses stay in the room: its register is there, and its value is taken.
+use Rattle.std.proofs.Common.{◌≡◌, ℕ, ◌≤◌, T, IsTrue, eqb, List, length, None, sym, refl, ap, ◌∙◌, subst, ⊎_elim, arith}
+use Rattle.std.proofs.lemmas.Bool.{cond_both}
 use Rattle.std.proofs.lemmas.Bool.Decides.{nat_tests}
 use Rattle.std.proofs.lemmas.Grind.{not_there}
-use Rattle.door.specs.Accesses.{can_make}
+use Rattle.door.specs.Table.{Table}
+use Rattle.door.specs.Accesses.{can_make, InRoom, ShowsAccesses}
 use Rattle.door.specs.Calls.{refusal_of, step_refusal, access_at}
+use Rattle.door.specs.History.{accepted, no_refusal}
 use Rattle.door.specs.Law.{Origin, IsReached}
-use Rattle.door.specs.Making.{arms_for}
-use Rattle.door.specs.Positions.{access_of, phase_of, side_of}
-use Rattle.door.specs.States.{State, made, is_arm, arm_at, phase_at}
-use Rattle.door.specs.Tallies.{same_phase}
+use Rattle.door.specs.Making.{made_regs, cleared}
+use Rattle.door.specs.States.{State, made, phase_at}
+use Rattle.door.specs.declared.access.Access.{Access}
 use Rattle.door.specs.declared.call.Call.TheVariants.{Step as step}
-use Rattle.door.specs.declared.position.Phase.TheVariants as P
-use Rattle.door.proofs.Accepted.{for_arm_none, step_none, known_arm}
+use Rattle.door.proofs.Accepted.{known_arm}
 use Rattle.door.proofs.Bools.{test, clash, is_true}
-use Rattle.door.proofs.machine.Machine.{Stance, waits, position, side, may_step, Machine}
-use Rattle.door.proofs.machine.Invariant.{Own, Inv}
-use Rattle.door.proofs.machine.Mirror.{Mirror, as_bit}
-use Rattle.door.proofs.machine.Reached.{Sound, run_n, run_sound, made_sound}
+use Rattle.door.proofs.Rooms.{arms_fit, length_cleared}
+use Rattle.door.proofs.Runs.{run_n, run_high, run_regs}
 
-module _ (s : State) (g : Machine) (mir : Mirror s g) (i : ℕ) (lo : 1 ≤ i) (hi : i ≤ s.n) where
-  -- an arm of the machine, whose index is one of the arms
-  stance_makes : (a : Stance) → Own g.n g.group g.arms a → T (may_step a) → T (can_make s (access_of i (side_of (as_bit (side a))) (position a)))
-  stance_makes (waits u j p) o k = let z = mir.size in let r = mir.room in let x = o.0 in let y = o.1 in grind (arith, nat_tests)
-  stance_makes a o k = let r = mir.room in let b = mir.bits in grind (arith, nat_tests)
+module _ {At : Type 0} (door : Table At) (shown : ShowsAccesses door) where
+  made_length : (n : ℕ) (regs : List ℕ) → door.room n ≤ length regs → length (made_regs door n regs) ≡ length regs
+  made_length n regs h = cond_both (eqb n 0) regs (cleared door (door.room n) regs) (λ rs. length rs ≡ length regs) (λ _. refl) (λ _. length_cleared door (door.room n) regs h)
 
-mirrored : (s : State) (g : Machine) → Mirror s g → Inv g → (i : ℕ) → refusal_of s (step i) ≡ None → T (can_make s (access_at s i))
-mirrored s g mir inv i e =
-    let r = known_arm s i (step_refusal (phase_at s i)) e in
-    let h = mir.shows i r.0 r.1 in
-    let k : T (may_step (g.arms i)) = subst (λ p. T (not (same_phase (phase_of p) P.I) && not (same_phase (phase_of p) P.F))) h.stands (step_none (phase_at s i) (for_arm_none (is_arm s i) _ e)) in
-    let makes = stance_makes s g mir i r.0 r.1 (g.arms i) (inv.own i) k in
-    subst (λ o. T (can_make s (access_of i (side_of o) (arm_at s i).position))) (sym h.sided)
-    (subst (λ p. T (can_make s (access_of i (side_of (as_bit (side (g.arms i)))) p))) (sym h.stands) makes)
+  in_room : (s : State At) (a : Access) → door.room s.n ≤ length s.regs → door.needed ≤ s.high → InRoom door s.n a → T (can_make s a)
+  in_room s a fits bits h = grind (arith, nat_tests)
 
-from_origin : (s : State) (i : ℕ) → Origin s → refusal_of s (step i) ≡ None → T (can_make s (access_at s i))
-from_origin s i p e =
-    let n = arms_for p.high (length p.regs) p.wanted in
-    let some : 1 ≤ n = (let r = known_arm s i (step_refusal (phase_at s i)) e in let z = run_n p.calls (made p.memory p.high p.number p.wanted p.regs) in let l = p.leads in grind arith) in
-    let sound : Sound s n = subst (λ t. Sound t n) p.leads (run_sound _ n (made_sound p.memory p.high p.number p.wanted p.regs some) p.calls) in
-    mirrored s sound.machine sound.mirror sound.keeps i e
+  from_origin : (s : State At) (i : ℕ) → Origin door s → refusal_of door s (step i) ≡ None → T (can_make s (access_at door s i))
+  from_origin s i p e =
+      let start : State At = made door p.memory p.high p.number p.wanted p.regs in
+      let r = known_arm s i (step_refusal (phase_at door s i)) e in
+      let size : s.n ≡ start.n = sym (ap (λ t. t.n) p.leads) ∙ run_n door p.calls start in
+      let high : s.high ≡ p.high = sym (ap (λ t. t.high) p.leads) ∙ run_high door p.calls start in
+      let fit = arms_fit door p.high (length p.regs) p.wanted (let x = r.0 in let y = r.1 in omega arith) in
+      let len : length s.regs ≡ length p.regs = sym (ap (λ t. length t.regs) p.leads) ∙ (run_regs door p.calls start ∙ made_length start.n p.regs fit.0) in
+      let yes : T (accepted door s (step i)) = subst (λ x. T (no_refusal x)) (sym e) tt in
+      let makes : InRoom door s.n (access_at door s i) = subst (λ t. T (accepted door t (step i)) → InRoom door t.n (access_at door t i)) p.leads (shown p.memory p.high p.number p.wanted p.regs p.calls i) yes in
+      in_room s (access_at door s i) (let x = fit.0 in subst (λ k. door.room k ≤ length s.regs) (sym size) (omega arith)) (let x = fit.1 in omega arith) makes
 
-pub makeable : (s : State) (i : ℕ) → IsReached s → refusal_of s (step i) ≡ None → IsTrue (can_make s (access_at s i))
-makeable s i reached e =
-    ⊎_elim
-    (is_true (can_make s (access_at s i)))
-    (λ d. absurd (not_there reached (λ p. clash (can_make s (access_at s i)) (from_origin s i p e) d)))
-    (test (can_make s (access_at s i)))
+  pub makeable : (s : State At) (i : ℕ) → IsReached door s → refusal_of door s (step i) ≡ None → IsTrue (can_make s (access_at door s i))
+  makeable s i reached e =
+      ⊎_elim
+      (is_true (can_make s (access_at door s i)))
+      (λ d. absurd (not_there reached (λ p. clash (can_make s (access_at door s i)) (from_origin s i p e) d)))
+      (test (can_make s (access_at door s i)))

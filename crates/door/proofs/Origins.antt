@@ -1,23 +1,32 @@
 -- Calls lead to a gate just made, and to a gate after one more call.
-use Rattle.std.proofs.Common.{◌≡◌, ℕ, List, [], ◌∷◌, ◌++◌, sym, ap, ◌∙◌}
+use Rattle.std.proofs.Common.{◌≡◌, ℕ, ◌+◌, ◌<◌, length, get_or, take, List, [], ◌∷◌, ◌++◌, sym, refl, ap, ◌∙◌}
+use Rattle.std.proofs.lemmas.List.{take_more}
 use Rattle.std.proofs.Math.Logic.{∥∥₁_map}
-use Rattle.door.specs.Calls.{after}
+use Rattle.door.specs.Table.{Table}
+use Rattle.door.specs.Calls.{after, run}
 use Rattle.door.specs.Law.{IsReached}
 use Rattle.door.specs.States.{State, made}
 use Rattle.door.specs.declared.call.Call.{Call}
-use Rattle.door.proofs.machine.Reached.{run_append}
 
-pub reached_made : (memory high number wanted : ℕ) (regs : List ℕ) (s : State) → s ≡ made memory high number wanted regs → IsReached s
-reached_made memory high number wanted regs s e = ∣ record { memory = memory; high = high; number = number; wanted = wanted; regs = regs; calls = []; leads = sym e } ∣₁
+module _ {At : Type 0} (door : Table At) where
+  pub run_append : (xs ys : List Call) (s : State At) → run door s (xs ++ ys) ≡ run door (run door s xs) ys
+  run_append [] ys s = refl
+  run_append (c ∷ xs) ys s = run_append xs ys (after door s c)
 
-pub reached_after : (s : State) (c : Call) (t : State) → t ≡ after s c → IsReached s → IsReached t
-reached_after s c t e reached =
-    ∥∥₁_map reached (λ p. record {
-      memory = p.memory;
-      high = p.high;
-      number = p.number;
-      wanted = p.wanted;
-      regs = p.regs;
-      calls = p.calls ++ c ∷ [];
-      leads = run_append p.calls (c ∷ []) (made p.memory p.high p.number p.wanted p.regs) ∙ ap (λ x. after x c) p.leads ∙ sym e;
-    })
+  pub run_more : (s : State At) (cs : List Call) (i : ℕ) (d : Call) → i < length cs → run door s (take (i + 1) cs) ≡ after door (run door s (take i cs)) (get_or cs i d)
+  run_more s cs i d l = ap (run door s) (take_more cs i d l) ∙ run_append (take i cs) (get_or cs i d ∷ []) s
+
+  pub reached_made : (memory high number wanted : ℕ) (regs : List ℕ) (s : State At) → s ≡ made door memory high number wanted regs → IsReached door s
+  reached_made memory high number wanted regs s e = ∣ record { memory = memory; high = high; number = number; wanted = wanted; regs = regs; calls = []; leads = sym e } ∣₁
+
+  pub reached_after : (s : State At) (c : Call) (t : State At) → t ≡ after door s c → IsReached door s → IsReached door t
+  reached_after s c t e reached =
+      ∥∥₁_map reached (λ p. record {
+        memory = p.memory;
+        high = p.high;
+        number = p.number;
+        wanted = p.wanted;
+        regs = p.regs;
+        calls = p.calls ++ c ∷ [];
+        leads = run_append p.calls (c ∷ []) (made door p.memory p.high p.number p.wanted p.regs) ∙ ap (λ x. after door x c) p.leads ∙ sym e;
+      })

@@ -1,26 +1,38 @@
 -- What the gate keeps of an arm, and what a step makes of it.
-use Rattle.std.specs.Prelude.{ℕ, false, [], replicate, None, Option}
+use Rattle.std.specs.Prelude.{ℕ, Bool, false, if◌then◌else◌, [], replicate, Some, None, Option, ◌==◌}
 use Rattle.door.specs.Limits.{arm_limit}
-use Rattle.door.specs.Positions.{next_of, side_after, side_of}
+use Rattle.door.specs.Table.{Table}
 use Rattle.door.specs.declared.arm.Arm.{Arm}
-use Rattle.door.specs.declared.position.Position.{Position}
-use Rattle.door.specs.declared.position.Position.TheVariants.{Idle}
+use Rattle.door.specs.declared.phase.Phase.{Phase}
+use Rattle.door.specs.declared.phase.Phase.TheVariants as P
 
--- an arm of a gate just made
-abbrev pub fresh : Arm
-fresh = record { position = Idle; side = None; visits = 0; out = false; row = replicate arm_limit 0; notes = replicate arm_limit false }
+-- a side as a number, 0 where it is missing
+abbrev pub side_of : Option ℕ → ℕ
+side_of (Some s) = s
+side_of None = 0
 
--- what stands for a record past the end of the table
-abbrev pub no_arm : Arm
-no_arm = record { position = Idle; side = None; visits = 0; out = false; row = []; notes = [] }
+-- whether a side is t
+abbrev pub has_side : ℕ → Option ℕ → Bool
+has_side t (Some s) = s == t
+has_side t None = false
 
--- a record with another position and side
-abbrev pub moved : Position → Option ℕ → Arm → Arm
-moved p s a = record a { position = p; side = s }
+-- the side after a step from phase p to phase q that read v: in the doorway v, where it is the bit that is read; none after the last exit step
+abbrev pub side_after : Bool → ℕ → Phase → Phase → Option ℕ → Option ℕ
+side_after reads v P.D q s = if reads then Some v else s
+side_after reads v P.X P.I s = None
+side_after reads v p q s = s
 
-abbrev pub sided : ℕ → Arm → Arm
-sided v a = moved a.position (side_after v a.position a.side) a
+module _ {At : Type 0} (door : Table At) where
+  -- an arm of a gate just made
+  abbrev pub fresh : Arm At
+  fresh = record { position = door.idle; side = None; visits = 0; out = false; row = replicate arm_limit 0; notes = replicate arm_limit false }
 
--- the record after a step that read v
-abbrev pub advanced : ℕ → ℕ → Arm → Arm
-advanced n v a = moved (next_of n (side_of a.side) v a.position) (side_after v a.position a.side) a
+  -- what stands for a record past the end of the table
+  abbrev pub no_arm : Arm At
+  no_arm = record { position = door.idle; side = None; visits = 0; out = false; row = []; notes = [] }
+
+  -- the record after a step that read v
+  abbrev pub advanced : ℕ → ℕ → Arm At → Arm At
+  advanced n v a =
+      let q = door.next n (side_of a.side) v a.position in
+      record a { position = q; side = side_after (door.reads_bit a.position) v (door.phase a.position) (door.phase q) a.side }

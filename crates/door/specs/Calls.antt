@@ -2,20 +2,17 @@
 use Rattle.std.specs.Prelude.{ℕ, take, ◌+◌, ◌-◌, Bool, true, false, if◌then◌else◌, not, ◌&&◌, ◌||◌, List, [], ◌∷◌, Some, None, Ok, Err, Option, Result, ◌==◌, nat_lt, slice_set}
 use Rattle.std.specs.List.{list_any}
 use Rattle.door.specs.Limits.{visit_limit}
-use Rattle.door.specs.Positions.{phase_of, side_of, has_side, access_of, value_read, regs_after}
-use Rattle.door.specs.Arms.{advanced}
+use Rattle.door.specs.Registers.{value_read, regs_after}
+use Rattle.door.specs.Table.{Table}
+use Rattle.door.specs.Arms.{side_of, has_side, advanced}
 use Rattle.door.specs.Tallies.{tallied}
 use Rattle.door.specs.States.{State, is_arm, arm_at, phase_at, bit_of, with_table, with_arm}
 use Rattle.door.specs.declared.access.Access.{Access}
 use Rattle.door.specs.declared.arm.Arm.{Arm}
 use Rattle.door.specs.declared.call.Call.{Call}
 use Rattle.door.specs.declared.call.Call.TheVariants.{Begin as begin, Step as step, Admit as admit, Confirm as confirm, Leave as leave, Look as look, Tally as tally, Way as way}
-use Rattle.door.specs.declared.position.Doorway.TheVariants.{D1}
-use Rattle.door.specs.declared.position.Exit.TheVariants.{X1}
-use Rattle.door.specs.declared.position.Phase.{Phase}
-use Rattle.door.specs.declared.position.Phase.TheVariants as P
-use Rattle.door.specs.declared.position.Position.{Position}
-use Rattle.door.specs.declared.position.Position.TheVariants as At
+use Rattle.door.specs.declared.phase.Phase.{Phase}
+use Rattle.door.specs.declared.phase.Phase.TheVariants as P
 use Rattle.door.specs.declared.refusal.Refusal.{Refusal}
 use Rattle.door.specs.declared.refusal.Refusal.TheVariants as R
 
@@ -37,82 +34,84 @@ abbrev pub way_refusal : Phase → Option Refusal
 way_refusal P.W = None
 way_refusal p = Some R.Elsewhere
 
--- a pass of this gate whose arm has its pass out
-abbrev pub knows : State → ℕ → ℕ → Bool
-knows s gate i = gate == s.number && (is_arm s i && (arm_at s i).out)
-
--- no such arm comes before all else
-abbrev pub for_arm : State → ℕ → Option Refusal → Option Refusal
-for_arm s i more = if is_arm s i then more else Some R.NoArm
-
-abbrev pub refusal_of : State → Call → Option Refusal
-refusal_of s (begin i) = for_arm s i (begin_refusal (phase_at s i) (arm_at s i).visits)
-refusal_of s (step i) = for_arm s i (step_refusal (phase_at s i))
-refusal_of s (admit i) = for_arm s i (admit_refusal (phase_at s i) (arm_at s i).out)
-refusal_of s (confirm gate i) = None
-refusal_of s (leave gate i) = if knows s gate i then None else Some R.StrangePass
-refusal_of s (look i) = for_arm s i None
-refusal_of s (tally w b) = for_arm s w (for_arm s b None)
-refusal_of s (way i) = for_arm s i (way_refusal (phase_at s i))
-
--- a record with another position, count of visits and mark
-abbrev pub with_visit : Position → ℕ → Bool → Arm → Arm
-with_visit p v o a = record a { position = p; visits = v; out = o }
-
--- the access of arm i
-abbrev pub access_at : State → ℕ → Access
-access_at s i = access_of i (side_of (arm_at s i).side) (arm_at s i).position
-
--- the record of arm i after its access
-abbrev pub arm_after : State → ℕ → Arm
-arm_after s i = advanced s.n (value_read s.regs (access_at s i)) (arm_at s i)
-
--- one access, one record moved on, and the rows that tell of it
-abbrev pub stepped : ℕ → State → State
-stepped i s =
-    with_table
-    (regs_after s.high s.regs (access_at s i))
-    (tallied (i - 1) (phase_at s i) (phase_of (arm_after s i).position) (slice_set s.arms (i - 1) (arm_after s i)))
-    s
-
--- what an accepted call yields
-abbrev pub done : State → Call → State
-done s (begin i) = with_arm i (with_visit (At.Doorway D1) ((arm_at s i).visits + 1) (arm_at s i).out (arm_at s i)) s
-done s (step i) = stepped i s
-done s (admit i) = with_arm i (with_visit (arm_at s i).position (arm_at s i).visits true (arm_at s i)) s
-done s (leave gate i) = with_arm i (with_visit (At.Leaving X1) (arm_at s i).visits false (arm_at s i)) s
-done s c = s
-
 -- the new one where nothing was refused, else the old one
 abbrev pub unless : {X : Type 0} → Option Refusal → X → X → X
 unless None new old = new
 unless (Some r) new old = old
-
--- a refused call alters nothing
-abbrev pub after : State → Call → State
-after s c = unless (refusal_of s c) (done s c) s
-
--- a list of calls, one after another
-abbrev pub run : State → List Call → State
-run s [] = s
-run s (c ∷ cs) = run (after s c) cs
 
 -- the answer of a call that is accepted with x
 abbrev pub answered : {X : Type 0} → Option Refusal → X → Result X Refusal
 answered None x = Ok x
 answered (Some r) x = Err r
 
--- whether one of the first n arms has side t
-abbrev pub some_side : ℕ → List Arm → ℕ → Bool
-some_side t arms n = list_any (λ a. has_side t a.side) (take n arms)
+module _ {At : Type 0} where
+  -- no such arm comes before all else
+  abbrev pub for_arm : State At → ℕ → Option Refusal → Option Refusal
+  for_arm s i more = if is_arm s i then more else Some R.NoArm
 
--- the group differs from a side, or no arm has the other side
-abbrev pub free_for : State → ℕ → Bool
-free_for s side = not (bit_of s == side) || not (some_side (1 - side) s.arms s.n)
+  -- a record with another position, count of visits and mark
+  abbrev pub with_visit : At → ℕ → Bool → Arm At → Arm At
+  with_visit p v o a = record a { position = p; visits = v; out = o }
 
--- what way tells of a waiting arm
-abbrev pub has_way : State → ℕ → Bool
-has_way s i = free_for s (side_of (arm_at s i).side)
+  -- whether one of the first n arms has side t
+  abbrev pub some_side : ℕ → List (Arm At) → ℕ → Bool
+  some_side t arms n = list_any (λ a. has_side t a.side) (take n arms)
 
-abbrev pub way_answer : State → ℕ → Result Bool Refusal
-way_answer s i = answered (refusal_of s (way i)) (has_way s i)
+  -- the group differs from a side, or no arm has the other side
+  abbrev pub free_for : State At → ℕ → Bool
+  free_for s side = not (bit_of s == side) || not (some_side (1 - side) s.arms s.n)
+
+module _ {At : Type 0} (door : Table At) where
+  -- a pass of this gate whose arm has its pass out
+  abbrev pub knows : State At → ℕ → ℕ → Bool
+  knows s gate i = gate == s.number && (is_arm s i && (arm_at door s i).out)
+
+  abbrev pub refusal_of : State At → Call → Option Refusal
+  refusal_of s (begin i) = for_arm s i (begin_refusal (phase_at door s i) (arm_at door s i).visits)
+  refusal_of s (step i) = for_arm s i (step_refusal (phase_at door s i))
+  refusal_of s (admit i) = for_arm s i (admit_refusal (phase_at door s i) (arm_at door s i).out)
+  refusal_of s (confirm gate i) = None
+  refusal_of s (leave gate i) = if knows s gate i then None else Some R.StrangePass
+  refusal_of s (look i) = for_arm s i None
+  refusal_of s (tally w b) = for_arm s w (for_arm s b None)
+  refusal_of s (way i) = for_arm s i (way_refusal (phase_at door s i))
+
+  -- the access of arm i
+  abbrev pub access_at : State At → ℕ → Access
+  access_at s i = door.access i (side_of (arm_at door s i).side) (arm_at door s i).position
+
+  -- the record of arm i after its access
+  abbrev pub arm_after : State At → ℕ → Arm At
+  arm_after s i = advanced door s.n (value_read s.regs (access_at s i)) (arm_at door s i)
+
+  -- one access, one record moved on, and the rows that tell of it
+  abbrev pub stepped : ℕ → State At → State At
+  stepped i s =
+      with_table
+      (regs_after s.high s.regs (access_at s i))
+      (tallied door (i - 1) (phase_at door s i) (door.phase (arm_after s i).position) (slice_set s.arms (i - 1) (arm_after s i)))
+      s
+
+  -- what an accepted call yields
+  abbrev pub done : State At → Call → State At
+  done s (begin i) = with_arm i (with_visit door.entry ((arm_at door s i).visits + 1) (arm_at door s i).out (arm_at door s i)) s
+  done s (step i) = stepped i s
+  done s (admit i) = with_arm i (with_visit (arm_at door s i).position (arm_at door s i).visits true (arm_at door s i)) s
+  done s (leave gate i) = with_arm i (with_visit door.exit (arm_at door s i).visits false (arm_at door s i)) s
+  done s c = s
+
+  -- a refused call alters nothing
+  abbrev pub after : State At → Call → State At
+  after s c = unless (refusal_of s c) (done s c) s
+
+  -- a list of calls, one after another
+  abbrev pub run : State At → List Call → State At
+  run s [] = s
+  run s (c ∷ cs) = run (after s c) cs
+
+  -- what way tells of a waiting arm
+  abbrev pub has_way : State At → ℕ → Bool
+  has_way s i = free_for s (side_of (arm_at door s i).side)
+
+  abbrev pub way_answer : State At → ℕ → Result Bool Refusal
+  way_answer s i = answered (refusal_of s (way i)) (has_way s i)

@@ -1,49 +1,90 @@
--- The fairness of a gate.
+-- The fairness of a gate, over any door.
 use Rattle.std.specs.Prelude.{◌≡◌, ℕ, ◌+◌, ◌-◌, ◌*◌, ◌≤◌, Bool, true, false, T, ◌↔◌, List, Ok, Result, slice_index, slice_index_or}
+use Rattle.door.specs.Table.{Table}
 use Rattle.door.specs.States.{State, made, is_arm, arm_at}
 use Rattle.door.specs.Calls.{run, has_way}
 use Rattle.door.specs.History.{Waits, RightOfWay, bit_read, entries_since, idle_then, Rounds, GoesInside}
+use Rattle.door.specs.Rules.{Always}
 use Rattle.door.specs.declared.call.Call.{Call}
 use Rattle.door.specs.declared.refusal.Refusal.{Refusal}
 
--- what holds at the state s of a gate that was start and had the calls of past
-pub record Fair (start : State) (past : List Call) (s : State) : Type 0 where
+module _ {At : Type 0} (door : Table At) where
   -- two waiting arms both have right of way, or neither, exactly if the bits that they read are equal
-  pub alike : (u w : ℕ) → Waits s u → Waits s w → ((RightOfWay s u ↔ RightOfWay s w) ↔ (bit_read u start past ≡ bit_read w start past))
+  abbrev pub Alike : State At → List Call → State At → Type 0
+  Alike start past s = (u w : ℕ) → Waits door s u → Waits door s w → ((RightOfWay door s u ↔ RightOfWay door s w) ↔ (bit_read door u start past ≡ bit_read door w start past))
+
   -- since a waiting arm ended its doorway each arm went inside at most twice
-  pub twice : (w b : ℕ) → Waits s w → T (is_arm s b) → entries_since w b start past ≤ 2
+  abbrev pub AtMostTwice : State At → List Call → State At → Type 0
+  AtMostTwice start past s = (w b : ℕ) → Waits door s w → T (is_arm s b) → entries_since door w b start past ≤ 2
+
   -- and at most once if it was idle then
-  pub once : (w b : ℕ) → Waits s w → T (is_arm s b) → T (idle_then w b start past) → entries_since w b start past ≤ 1
+  abbrev pub OnceIfIdle : State At → List Call → State At → Type 0
+  OnceIfIdle start past s = (w b : ℕ) → Waits door s w → T (is_arm s b) → T (idle_then door w b start past) → entries_since door w b start past ≤ 1
+
   -- and it itself did not
-  pub itself : (w : ℕ) → Waits s w → entries_since w w start past ≡ 0
+  abbrev pub NotItself : State At → List Call → State At → Type 0
+  NotItself start past s = (w : ℕ) → Waits door s w → entries_since door w w start past ≡ 0
+
   -- its row counts just these entries, and its notes say who was idle
-  pub row : (w b : ℕ) → Waits s w → T (is_arm s b) → slice_index (arm_at s w).row (b - 1) ≡ entries_since w b start past
-  pub notes : (w b : ℕ) → Waits s w → T (is_arm s b) → slice_index_or (arm_at s w).notes (b - 1) false ≡ idle_then w b start past
+  abbrev pub RowCounts : State At → List Call → State At → Type 0
+  RowCounts start past s = (w b : ℕ) → Waits door s w → T (is_arm s b) → slice_index (arm_at door s w).row (b - 1) ≡ entries_since door w b start past
+
+  abbrev pub NotesTell : State At → List Call → State At → Type 0
+  NotesTell start past s = (w b : ℕ) → Waits door s w → T (is_arm s b) → slice_index_or (arm_at door s w).notes (b - 1) false ≡ idle_then door w b start past
+
   -- a waiting arm goes inside within 50 n + 10 rounds, whatever else is called
-  pub rounds : (w : ℕ) → Waits s w → (further : List Call) → Rounds (50 * s.n + 10) s further → GoesInside w s further
+  abbrev pub AllInside : State At → Type 0
+  AllInside s = (w : ℕ) → Waits door s w → (further : List Call) → Rounds door (50 * s.n + 10) s further → GoesInside door w s further
+
   -- what the call way tells of a waiting arm is right of way
-  pub told : (w : ℕ) → Waits s w → (T (has_way s w) ↔ RightOfWay s w)
+  abbrev pub WayTold : State At → Type 0
+  WayTold s = (w : ℕ) → Waits door s w → (T (has_way door s w) ↔ RightOfWay door s w)
+
+-- how often an arm is passed, from every making on; the meaning and the rules alone give it
+pub record PassingBound {At : Type 0} (door : Table At) : Type 0 where
+  pub twice : Always door (AtMostTwice door)
+  pub once : Always door (OnceIfIdle door)
+  pub itself : Always door (NotItself door)
+  pub row : Always door (RowCounts door)
+  pub notes : Always door (NotesTell door)
+
+-- what a door shows by an argument of its own: right of way, and going inside
+pub record ShowsWay {At : Type 0} (door : Table At) : Type 0 where
+  pub alike : Always door (Alike door)
+  pub rounds : Always door (λ start past s. AllInside door s)
+  pub told : Always door (λ start past s. WayTold door s)
+
+-- what holds at the state s of a gate that was start and had the calls of past
+pub record Fair {At : Type 0} (door : Table At) (start : State At) (past : List Call) (s : State At) : Type 0 where
+  pub alike : Alike door start past s
+  pub twice : AtMostTwice door start past s
+  pub once : OnceIfIdle door start past s
+  pub itself : NotItself door start past s
+  pub row : RowCounts door start past s
+  pub notes : NotesTell door start past s
+  pub rounds : AllInside door s
+  pub told : WayTold door s
 
 -- a gate in this state is fair, however it was made and whatever was called
-abbrev pub Law : State → Type 0
-Law s = (memory high number wanted : ℕ) (regs : List ℕ) (past : List Call) →
-    let start = made memory high number wanted regs in
-    run start past ≡ s → Fair start past s
+abbrev pub Law : {At : Type 0} → Table At → State At → Type 0
+Law {At} door s = (memory high number wanted : ℕ) (regs : List ℕ) (past : List Call) →
+    let start : State At = made door memory high number wanted regs in
+    run door start past ≡ s → Fair door start past s
 
 -- a making, and calls since then, that lead to the state s
-pub record Origin (s : State) : Type 0 where
+pub record Origin {At : Type 0} (door : Table At) (s : State At) : Type 0 where
   pub memory : ℕ
   pub high : ℕ
   pub number : ℕ
   pub wanted : ℕ
   pub regs : List ℕ
   pub calls : List Call
-  pub leads : run (made memory high number wanted regs) calls ≡ s
+  pub leads : run door (made door memory high number wanted regs) calls ≡ s
 
 -- there is such an origin
-abbrev pub IsReached : State → Type 0
-IsReached s = ∥ Origin s ∥₁
+abbrev pub IsReached : {At : Type 0} → Table At → State At → Type 0
+IsReached door s = ∥ Origin door s ∥₁
 
 -- an answer is yes exactly if the arm, where it waits, has right of way
-abbrev pub Tells : State → ℕ → Result Bool Refusal → Type 0
-Tells s w answer = Waits s w → (answer ≡ Ok true ↔ RightOfWay s w)
+abbrev pub Tells : {At : Type 0} → Table At → State At → ℕ → Result Bool Refusal → Type 0
+Tells door s w answer = Waits door s w → (answer ≡ Ok true ↔ RightOfWay door s w)

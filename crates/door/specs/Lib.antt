@@ -1,5 +1,7 @@
 pub mod Limits
-pub mod Positions
+pub mod Phases
+pub mod Registers
+pub mod Table
 pub mod Arms
 pub mod Refusals
 pub mod Making
@@ -7,5 +9,7 @@ pub mod Tallies
 pub mod States
 pub mod Calls
 pub mod History
+pub mod Meaning
+pub mod Rules
 pub mod Law
 pub mod Accesses

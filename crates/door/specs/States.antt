@@ -1,51 +1,54 @@
 -- The state of a gate.
 use Rattle.std.specs.Prelude.{ℕ, ◌-◌, Bool, if◌then◌else◌, ◌&&◌, List, length, replicate, ◌==◌, nat_le, slice_index, slice_index_or, slice_set}
 use Rattle.door.specs.Limits.{arm_limit}
-use Rattle.door.specs.Positions.{group, phase_of}
+use Rattle.door.specs.Registers.{group}
+use Rattle.door.specs.Table.{Table}
 use Rattle.door.specs.Arms.{fresh, no_arm}
 use Rattle.door.specs.Making.{made_regs, arms_for}
 use Rattle.door.specs.declared.arm.Arm.{Arm}
-use Rattle.door.specs.declared.position.Phase.{Phase}
+use Rattle.door.specs.declared.phase.Phase.{Phase}
 
 -- memory: which borrowed memory the bank writes; high: the highest value of a register; number: the gate's;
--- n: how many arms; regs: the values of the bank; arms: the records, arm i at i - 1
-pub record State : Type 0 where
+-- n: how many arms; regs: the values of the bank; arms: the records, arm i at i - 1, each at a position of the door
+pub record State (At : Type 0) : Type 0 where
   pub memory : ℕ
   pub high : ℕ
   pub number : ℕ
   pub n : ℕ
   pub regs : List ℕ
-  pub arms : List Arm
+  pub arms : List (Arm At)
 
--- a gate just made over a bank
-abbrev pub made : ℕ → ℕ → ℕ → ℕ → List ℕ → State
-made memory high number wanted regs =
-    record {
-      memory = memory;
-      high = high;
-      number = number;
-      n = arms_for high (length regs) wanted;
-      regs = made_regs (arms_for high (length regs) wanted) regs;
-      arms = replicate arm_limit fresh;
-    }
+module _ {At : Type 0} where
+  abbrev pub is_arm : State At → ℕ → Bool
+  is_arm s i = nat_le 1 i && nat_le i s.n
 
-abbrev pub is_arm : State → ℕ → Bool
-is_arm s i = nat_le 1 i && nat_le i s.n
+  -- other registers and records
+  abbrev pub with_table : List ℕ → List (Arm At) → State At → State At
+  with_table regs arms s = record s { regs = regs; arms = arms }
 
-abbrev pub arm_at : State → ℕ → Arm
-arm_at s i = slice_index_or s.arms (i - 1) no_arm
+  -- another record for arm i
+  abbrev pub with_arm : ℕ → Arm At → State At → State At
+  with_arm i a s = with_table s.regs (slice_set s.arms (i - 1) a) s
 
-abbrev pub phase_at : State → ℕ → Phase
-phase_at s i = phase_of (arm_at s i).position
+  -- the group bit; 0 where the gate has no arms
+  abbrev pub bit_of : State At → ℕ
+  bit_of s = if s.n == 0 then 0 else slice_index s.regs group
 
--- other registers and records
-abbrev pub with_table : List ℕ → List Arm → State → State
-with_table regs arms s = record s { regs = regs; arms = arms }
+module _ {At : Type 0} (door : Table At) where
+  -- a gate just made over a bank
+  abbrev pub made : ℕ → ℕ → ℕ → ℕ → List ℕ → State At
+  made memory high number wanted regs =
+      record {
+        memory = memory;
+        high = high;
+        number = number;
+        n = arms_for door high (length regs) wanted;
+        regs = made_regs door (arms_for door high (length regs) wanted) regs;
+        arms = replicate arm_limit (fresh door);
+      }
 
--- another record for arm i
-abbrev pub with_arm : ℕ → Arm → State → State
-with_arm i a s = with_table s.regs (slice_set s.arms (i - 1) a) s
+  abbrev pub arm_at : State At → ℕ → Arm At
+  arm_at s i = slice_index_or s.arms (i - 1) (no_arm door)
 
--- the group bit; 0 where the gate has no arms
-abbrev pub bit_of : State → ℕ
-bit_of s = if s.n == 0 then 0 else slice_index s.regs group
+  abbrev pub phase_at : State At → ℕ → Phase
+  phase_at s i = door.phase (arm_at s i).position

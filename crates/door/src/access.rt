@@ -1,7 +1,10 @@
 ghost use Rattle.std.specs.Prelude.{◌≡◌, slice_index};
-ghost use Rattle.door.specs.Positions.{value_read, regs_after};
+ghost use Rattle.door.specs.Registers.{value_read, regs_after};
 
 use bank::Bank;
+
+/// The register of the group.
+pub const GROUP: usize = 0;
 
 /// The one register access of a step. Registers count from 0.
 #[derive(Clone, Copy, Debug, PartialEq, Eq)]
@@ -14,7 +17,7 @@ pub enum Access {
 }
 
 /// The value of register i, or 0 where the bank has none.
-#[tactic(auto, using(crate::proofs::Rooms::read_or_zero))]
+#[tactic(auto, using(crate::proofs::Registers::read_or_zero))]
 pub fn value_at<B: Bank>(bank: &B, i: usize) -> u64
     ensures { result ≡ slice_index (B.values bank.now) i }
 {

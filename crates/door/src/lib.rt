@@ -1,18 +1,22 @@
-//! The door of a gate: where an arm stands, the one access that it makes there, and where that leads.
-//! The model of a whole gate and of its calls, and what follows from it, are in specs/ and proofs/.
+//! What every door is to a gate: the phases and records of its arms, the one access of a step, the calls, and why they are refused.
+//! The model of a whole gate over any door's table, the rules that a door shows, and the law are in specs/;
+//! what follows from the rules alone, how often an arm is passed, is in proofs/.
 #![tactic(auto)]
 
-// Where an arm stands, and the one access that it makes there.
-pub mod position;
+// The phases of an arm.
+pub mod phase;
 // The one access of a step, made on any bank.
 pub mod access;
-// What a gate keeps of each arm, and how a step changes it.
+// What a gate keeps of each arm.
 pub mod arm;
 // Why a gate says no.
 pub mod refusal;
 // The calls of a gate.
 pub mod call;
+// How often an arm is passed, of any door.
+mod passing;
 
 pub use call::Call;
-pub use position::Phase;
+pub use passing::passing_bound;
+pub use phase::Phase;
 pub use refusal::Refusal;

@@ -1,5 +1,5 @@
--- The cases of the table: one test, computed over the whole table, and what a passed test shows.
-use Rattle.std.proofs.Common.{◌≡◌, ℕ, zero, suc, ◌<◌, ◌≤◌, Bool, true, false, not, ◌&&◌, eqb, leb, List, [], ◌∷◌, length, get_or, Some, None, Ok, Err, codes, Option, Result, refl, ap, ◌∙◌, le_of_suc-le-suc, not-suc-le-zero}
+-- The cases of both tables: one test, computed over each table, and what a passed test shows.
+use Rattle.std.proofs.Common.{◌≡◌, ℕ, zero, suc, ◌≤◌, Bool, true, false, not, ◌&&◌, eqb, leb, ltb, List, [], ◌∷◌, length, Some, None, Ok, Err, codes, Option, Result, refl, ap, ◌∙◌, le_of_suc-le-suc, not-suc-le-zero}
 use Rattle.std.specs.Fmt.{digits}
 use Rattle.std.specs.Str.{bytes_eq}
 use Rattle.std.proofs.lemmas.Slice.Eq.{bytes_eq-Decides}
@@ -10,6 +10,7 @@ use Rattle.schedule.specs.Numbers.{groups, number_from}
 use Rattle.schedule.specs.declared.number.Number.{Number}
 use Rattle.schedule.specs.Reading.{Contents, contents, says, orders_from}
 use Rattle.schedule.specs.declared.fault.PlayFault.{PlayFault}
+use Rattle.door.specs.Table.{Table}
 use Rattle.door.specs.Calls.{refusal_of, way_answer}
 use Rattle.gate.specs.Answers.{tally_answer}
 use Rattle.door.specs.Making.{arms_for, largest}
@@ -20,7 +21,12 @@ use Rattle.play.specs.Limits.{report_room}
 use Rattle.play.specs.Playing.{playable, play_answer, play_memory, play_text}
 use Rattle.play.specs.Reports.{fault_text, layer_word}
 use Rattle.play.specs.Text.{overwritten}
-use Rattle.edges.specs.Cases.{Case, writes, reads, opens, fails, tells, plays, gives, accepts, refuses, frees, counts, highest, registers, Plays, Holds, table, EveryCase}
+use Rattle.three_bits.specs.Positions.{three_bits}
+use Rattle.four_valued.specs.Positions.{four_valued}
+use Rattle.edges.specs.Cases.{Case, writes, reads, opens, fails, tells, plays, gives, bars, accepts, refuses, frees, counts, Plays, Holds, EachHolds}
+use Rattle.edges.specs.ThreeBitCases as T
+use Rattle.edges.specs.FourValuedCases as V
+use Rattle.edges.specs.EveryCase.{EveryCase}
 
 -- the answer is of one kind, and what it holds passes a test
 abbrev ok_test : {X E : Type 0} → (X → Bool) → Result X E → Bool
@@ -105,9 +111,6 @@ same_fault number place order layer f t =
 abbrev line_test : List ℕ → PlayFault → Bool
 line_test line f = bytes_eq (fault_text f) line
 
-abbrev report_test : List ℕ → Contents → Bool
-report_test text c = bytes_eq (play_text 0 highest registers c) text
-
 abbrev same_bool : Bool → Bool → Bool
 same_bool true b = b
 same_bool false b = not b
@@ -122,70 +125,86 @@ number_test number r = eqb (refusal_number r) number
 abbrev count_test : ℕ → Tally → Bool
 count_test times c = eqb c.count times
 
--- the test of a case
-abbrev test : Case → Bool
-test (writes number bytes) = bytes_eq (groups number) bytes
-test (reads bytes number) = ok_test (number_read_test number (length bytes)) (number_from 0 bytes)
-test (opens file arms) = ok_test (contents_test arms) (says file)
-test (fails file number place order layer) = err_test (fault_test number place order (codes layer)) (says file)
-test (tells file line) = err_test (line_test (codes line)) (says file)
-test (plays file text) = leb (length file) file_limit && ok_test (report_test (codes text)) (says file)
-test (gives room wanted arms) = eqb (arms_for highest room wanted) arms
-test (accepts s call) = none_test (refusal_of s call)
-test (refuses s call number) = some_test (number_test number) (refusal_of s call)
-test (frees s i free) = ok_test (same_bool free) (way_answer s i)
-test (counts s w b times) = ok_test (count_test times) (tally_answer s w b)
-
 -- a play with room for a report obeys what the file says
 played : (file memory : List ℕ) → leb (length file) file_limit ≡ true → report_room ≤ length memory → playable file (length memory) ≡ says file
 played file memory short room = cond-true _ _ _ short ∙ cond-true _ _ _ (le-leb report_room (length memory) room)
 
--- and comes to its report
-same_report : (file text memory : List ℕ) (r : Result Contents PlayFault)
-    → ok_test (report_test text) r ≡ true → playable file (length memory) ≡ r → Plays file text memory
-same_report file text memory r t e =
-    let P : Contents → Type 0 = λ c. play_text 0 highest registers c ≡ text in
-    let h = is_ok {P = P} (report_test text) (λ c. same_bytes (play_text 0 highest registers c) text) r t in
-    record {
-      answer = ap (play_answer 0 highest registers) (e ∙ h.1) ∙ ap (λ bytes. Ok (length bytes)) h.2;
-      report = ap (play_memory 0 highest registers memory) (e ∙ h.1) ∙ ap (overwritten memory) h.2;
-    }
+-- of a door, and a bank under it
+module _ {At : Type 0} (door : Table At) (highest : ℕ) (registers : List ℕ) where
+  -- what a play leaves is the text
+  abbrev report_test : ℕ → List ℕ → Contents → Bool
+  report_test lent text c = bytes_eq (play_text door lent highest registers c) text
 
--- a case whose test passes holds
-sound : (c : Case) → test c ≡ true → Holds c
-sound (writes number bytes) t = same_bytes (groups number) bytes t
-sound (reads bytes number) t =
-    let N : Number = record { value = number; next = length bytes } in
-    let h = is_ok {P = λ n. n ≡ N} (number_read_test number (length bytes)) (same_number number (length bytes)) (number_from 0 bytes) t in h.1 ∙ ap Ok h.2
-sound (opens file arms) t =
-    let h = is_ok {P = λ c. c ≡ contents arms []} (contents_test arms) (same_contents arms) (says file) t in h.1 ∙ ap Ok h.2
-sound (fails file number place order layer) t =
-    is_err (fault_test number place order (codes layer)) (same_fault number place order (codes layer)) (says file) t
-sound (tells file line) t = is_err (line_test (codes line)) (λ f. same_bytes (fault_text f) (codes line)) (says file) t
-sound (plays file text) t =
-    let both = and_parts (leb (length file) file_limit) (ok_test (report_test (codes text)) (says file)) t in
-    λ memory room. same_report file (codes text) memory (says file) both.1 (played file memory both.0 room)
-sound (gives room wanted arms) t = eqb-true (arms_for highest room wanted) arms t
-sound (accepts s call) t = is_none (refusal_of s call) t
-sound (refuses s call number) t = is_some (number_test number) (λ r. eqb-true (refusal_number r) number) (refusal_of s call) t
-sound (frees s i free) t =
-    let h = is_ok {P = λ b. b ≡ free} (same_bool free) (is_bool free) (way_answer s i) t in h.1 ∙ ap Ok h.2
-sound (counts s w b times) t = is_ok (count_test times) (λ c. eqb-true c.count times) (tally_answer s w b) t
+  -- the test of a case; a play may be over any borrowed memory
+  abbrev test : ℕ → Case At → Bool
+  test lent (writes number bytes) = bytes_eq (groups number) bytes
+  test lent (reads bytes number) = ok_test (number_read_test number (length bytes)) (number_from 0 bytes)
+  test lent (opens file arms) = ok_test (contents_test arms) (says file)
+  test lent (fails file number place order layer) = err_test (fault_test number place order (codes layer)) (says file)
+  test lent (tells file line) = err_test (line_test (codes line)) (says file)
+  test lent (plays file text) = leb (length file) file_limit && ok_test (report_test lent (codes text)) (says file)
+  test lent (gives high room wanted arms) = eqb (arms_for door high room wanted) arms
+  test lent (bars high) = ltb high door.needed
+  test lent (accepts s call) = none_test (refusal_of door s call)
+  test lent (refuses s call number) = some_test (number_test number) (refusal_of door s call)
+  test lent (frees s i free) = ok_test (same_bool free) (way_answer door s i)
+  test lent (counts s w b times) = ok_test (count_test times) (tally_answer door s w b)
 
--- every case of a list passes, so each holds
-abbrev all_pass : List Case → Bool
-all_pass [] = true
-all_pass (c ∷ cs) = test c && all_pass cs
+  -- and comes to its report
+  same_report : (lent : ℕ) (file text memory : List ℕ) (r : Result Contents PlayFault)
+      → ok_test (report_test lent text) r ≡ true → playable file (length memory) ≡ r → Plays door highest registers lent file text memory
+  same_report lent file text memory r t e =
+      let P : Contents → Type 0 = λ c. play_text door lent highest registers c ≡ text in
+      let h = is_ok {P = P} (report_test lent text) (λ c. same_bytes (play_text door lent highest registers c) text) r t in
+      record {
+        answer = ap (play_answer door lent highest registers) (e ∙ h.1) ∙ ap (λ bytes. Ok (length bytes)) h.2;
+        report = ap (play_memory door lent highest registers memory) (e ∙ h.1) ∙ ap (overwritten memory) h.2;
+      }
 
-each : (cs : List Case) → all_pass cs ≡ true → (k : ℕ) (other : Case) → k < length cs → Holds (get_or cs k other)
-each [] t k other h = absurd (not-suc-le-zero h)
-each (c ∷ cs) t zero other h = sound c (and_parts (test c) (all_pass cs) t).0
-each (c ∷ cs) t (suc k) other h = each cs (and_parts (test c) (all_pass cs) t).1 k other (le_of_suc-le-suc h)
+  -- a case whose test passes holds
+  sound : (c : Case At) → ((lent : ℕ) → test lent c ≡ true) → Holds door highest registers c
+  sound (writes number bytes) t = same_bytes (groups number) bytes (t 0)
+  sound (reads bytes number) t =
+      let N : Number = record { value = number; next = length bytes } in
+      let h = is_ok {P = λ n. n ≡ N} (number_read_test number (length bytes)) (same_number number (length bytes)) (number_from 0 bytes) (t 0) in h.1 ∙ ap Ok h.2
+  sound (opens file arms) t =
+      let h = is_ok {P = λ c. c ≡ contents arms []} (contents_test arms) (same_contents arms) (says file) (t 0) in h.1 ∙ ap Ok h.2
+  sound (fails file number place order layer) t =
+      is_err (fault_test number place order (codes layer)) (same_fault number place order (codes layer)) (says file) (t 0)
+  sound (tells file line) t = is_err (line_test (codes line)) (λ f. same_bytes (fault_text f) (codes line)) (says file) (t 0)
+  sound (plays file text) t =
+      λ lent memory room.
+      let both = and_parts (leb (length file) file_limit) (ok_test (report_test lent (codes text)) (says file)) (t lent) in
+      same_report lent file (codes text) memory (says file) both.1 (played file memory both.0 room)
+  sound (gives high room wanted arms) t = eqb-true (arms_for door high room wanted) arms (t 0)
+  sound (bars high) t = λ room wanted. cond-true _ _ _ (t 0)
+  sound (accepts s call) t = is_none (refusal_of door s call) (t 0)
+  sound (refuses s call number) t = is_some (number_test number) (λ r. eqb-true (refusal_number r) number) (refusal_of door s call) (t 0)
+  sound (frees s i free) t =
+      let h = is_ok {P = λ b. b ≡ free} (same_bool free) (is_bool free) (way_answer door s i) (t 0) in h.1 ∙ ap Ok h.2
+  sound (counts s w b times) t = is_ok (count_test times) (λ c. eqb-true c.count times) (tally_answer door s w b) (t 0)
 
--- the table passes: computed
-passed : all_pass table ≡ true
+  -- every case of a list passes, so each holds
+  abbrev all_pass : ℕ → List (Case At) → Bool
+  all_pass lent [] = true
+  all_pass lent (c ∷ cs) = test lent c && all_pass lent cs
+
+  each : (cs : List (Case At)) → ((lent : ℕ) → all_pass lent cs ≡ true) → EachHolds door highest registers cs
+  each [] t k other h = absurd (not-suc-le-zero h)
+  each (c ∷ cs) t zero other h = sound c (λ lent. (and_parts (test lent c) (all_pass lent cs) (t lent)).0)
+  each (c ∷ cs) t (suc k) other h = each cs (λ lent. (and_parts (test lent c) (all_pass lent cs) (t lent)).1) k other (le_of_suc-le-suc h)
+
+-- both tables pass: computed
+three_bit_passed : (lent : ℕ) → all_pass three_bits T.highest T.registers lent T.table ≡ true
 unfolding orders_from largest digits
-passed = refl
+three_bit_passed lent = refl
+
+four_valued_passed : (lent : ℕ) → all_pass four_valued V.highest V.registers lent V.table ≡ true
+unfolding orders_from largest digits
+four_valued_passed lent = refl
 
 pub every_case : EveryCase
-every_case = each table passed
+every_case = record {
+  three_bit = each three_bits T.highest T.registers T.table three_bit_passed;
+  four_valued = each four_valued V.highest V.registers V.table four_valued_passed;
+}

@@ -1,14 +1,16 @@
 //! Prints how many edge cases are proved. Then plays the schedule files that its arguments name, and prints what came of each:
 //! the report or the fault line; whether a byte bank ends in the same text; the fault with one byte too little of memory;
 //! whether the orders that were read are written as the same file again.
+//! At the end it plays one file through the four-valued door.
 #![tactic(auto)]
 
 mod cases;
 
 use crate::cases::edge_cases;
 use anyhow::anyhow;
-use bank::{Bank, BitBank, ByteBank};
-use play::{REPORT_ROOM, fault_line, play};
+use bank::{BitBank, ByteBank};
+use doors::{FourValued, ThreeBits};
+use play::{Played, REPORT_ROOM, fault_line, play};
 use schedule::{FILE_LIMIT, Order, read, write};
 use std::io::Write;
 use std::{env, fs};
@@ -19,13 +21,24 @@ const SERVICE: u8 = 7;
 // One byte less than a report asks for.
 const TOO_LITTLE: usize = REPORT_ROOM - 1;
 
-// Registers for 32 arms.
+// Registers for 32 arms of the three-bit door.
 const REGISTERS: usize = 97;
 
-// Plays a file, and answers the length of the text that it left in memory.
-fn play_over<B: Bank + Drop>(file: &[u8], bank: B, memory: &mut [u8]) -> anyhow::Result<usize> {
-    let mut service = SERVICE;
-    let played = play(file, bank, memory, &mut service);
+// Registers for 32 arms of the four-valued door: the group, and the state of each.
+const STATES_AND_GROUP: usize = 33;
+
+// Three arms: 3 goes inside past 2, and 2 twice past 1, by the steps of the four-valued door.
+const TWICE_PAST: [u8; 42] = [
+    3, 8, 9, 9, 9, 12, 13, 13, 13, 13, 13, 13, 13, 13, 13, 13, 13, 13, 14, 13, 13, 4, 5, 5, 5, 9,
+    10, 9, 9, 8, 9, 9, 9, 9, 9, 9, 9, 9, 9, 9, 9, 9,
+];
+
+// The length of the text that a play left in memory; of a fault, its line is put there first.
+fn text_length<B: Drop, G>(
+    played: Played<B, G>,
+    service: u8,
+    memory: &mut [u8],
+) -> anyhow::Result<usize> {
     if service != SERVICE {
         return Err(anyhow!("the service byte was not restored"));
     }
@@ -37,11 +50,19 @@ fn play_over<B: Bank + Drop>(file: &[u8], bank: B, memory: &mut [u8]) -> anyhow:
     }
 }
 
+// Prints the first bytes of a memory.
+fn print_text(rt: &HostRuntime, memory: &[u8], length: usize) -> anyhow::Result<()> {
+    if let Some(shown) = memory.get(..length) {
+        rt.stdout().write_all(shown)?;
+    }
+    Ok(())
+}
+
 // The number of the fault with too little memory.
 fn short_of_memory(file: &[u8]) -> anyhow::Result<u8> {
     let mut memory = [0; TOO_LITTLE];
     let mut service = SERVICE;
-    match play(file, BitBank::new(), &mut memory, &mut service).answer {
+    match play::<_, ThreeBits>(file, BitBank::new(), &mut memory, &mut service).answer {
         Ok(_) => Err(anyhow!("played with too little memory")),
         Err(fault) => Ok(fault.number()),
     }
@@ -68,13 +89,15 @@ fn show(rt: &HostRuntime, name: &str) -> anyhow::Result<()> {
     let count = file.len();
     println!(rt; "{name}: {count} bytes")?;
     let mut text = [0; REPORT_ROOM];
-    let length = play_over(&file, BitBank::new(), &mut text)?;
-    if let Some(shown) = text.get(..length) {
-        rt.stdout().write_all(shown)?;
-    }
+    let mut service = SERVICE;
+    let played = play::<_, ThreeBits>(&file, BitBank::new(), &mut text, &mut service);
+    let length = text_length(played, service, &mut text)?;
+    print_text(rt, &text, length)?;
     let mut registers = [9; REGISTERS];
     let mut other = [0; REPORT_ROOM];
-    let again = play_over(&file, ByteBank::new(&mut registers), &mut other)?;
+    let bytes = ByteBank::new(&mut registers);
+    let played = play::<_, ThreeBits>(&file, bytes, &mut other, &mut service);
+    let again = text_length(played, service, &mut other)?;
     let same = if text == other && length == again {
         "same"
     } else {
@@ -88,11 +111,24 @@ fn show(rt: &HostRuntime, name: &str) -> anyhow::Result<()> {
     Ok(())
 }
 
+// Plays a file through the four-valued door over a byte bank, and prints the report.
+fn show_four_valued(rt: &HostRuntime) -> anyhow::Result<()> {
+    let count = TWICE_PAST.len();
+    println!(rt; "through the four-valued door: {count} bytes")?;
+    let mut registers = [9; STATES_AND_GROUP];
+    let mut text = [0; REPORT_ROOM];
+    let mut service = SERVICE;
+    let bytes = ByteBank::new(&mut registers);
+    let played = play::<_, FourValued>(&TWICE_PAST, bytes, &mut text, &mut service);
+    let length = text_length(played, service, &mut text)?;
+    print_text(rt, &text, length)
+}
+
 fn main(rt: HostRuntime) -> anyhow::Result<()> {
     let proved = edge_cases();
     println!(rt; "{proved} edge cases")?;
     for name in env::args(&rt)?.skip(1) {
         show(&rt, name.as_str())?;
     }
-    Ok(())
+    show_four_valued(&rt)
 }

@@ -1,17 +1,19 @@
 ghost use Rattle.std.specs.Prelude.{◌≡◌};
 ghost use Rattle.door.specs.States.{made};
 ghost use Rattle.door.specs.Calls.{after, run};
-ghost use Rattle.door.specs.Law.{Fair};
+ghost use Rattle.door.specs.Law.{Fair, PassingBound};
+ghost use Rattle.door.specs.Rules.{ShowsRules};
 
 use crate::gate::Gate;
 use crate::pass::{HandedBack, Pass};
 use bank::Bank;
 use door::Call;
+use doors::Door;
 
-impl<B: Bank> Gate<B> {
+impl<B: Bank, D: Door> Gate<B, D> {
     // Makes one call; what it answers is let go, and a pass is known by its number.
     fn carry(&mut self, call: Call)
-        ensures { self.new ≡ after self.old call }
+        ensures { self.new ≡ after D.table self.old call }
     {
         match call {
             Call::Begin(arm) => {
@@ -49,12 +51,19 @@ impl<B: Bank> Gate<B> {
 
 /// Makes a gate over a bank and carries out the calls, one after another. A pass is known by its gate number and arm;
 /// the passes that the list admits are ended here, so an arm that it leaves inside can leave by a later call of the same list only.
-pub fn carry_out<B: Bank>(bank: B, number: u16, wanted: usize, calls: &[Call]) -> Gate<B>
-    ensures state { result ≡ run (made (B.memory bank) B.HIGHEST number wanted (B.values bank)) calls.now }
+pub fn carry_out<B: Bank, D: Door>(
+    bank: B,
+    number: u16,
+    wanted: usize,
+    calls: &[Call],
+) -> Gate<B, D>
+    ensures state { result ≡ run D.table (made D.table (B.memory bank) B.HIGHEST number wanted (B.values bank)) calls.now }
     ensures lent { result.memory ≡ B.memory bank }
-    ensures law { Fair (made (B.memory bank) B.HIGHEST number wanted (B.values bank)) calls.now result }
+    ensures law { Fair D.table (made D.table (B.memory bank) B.HIGHEST number wanted (B.values bank)) calls.now result }
+    ensures rules { ShowsRules D.table }
+    ensures bound { PassingBound D.table }
 {
-    let mut gate = Gate::make(bank, number, wanted);
+    let mut gate = Gate::<B, D>::make(bank, number, wanted);
     for call in calls {
         gate.carry(*call);
     }

@@ -1,27 +1,28 @@
 use bank::Bank;
 use door::Phase;
 use door::arm::{ARM_LIMIT, Arm};
+use doors::Door;
 use std::marker::Model;
 
-/// Steps up to 32 arms towards a shared section. It owns its bank.
+/// Steps up to 32 arms towards a shared section, through a door. It owns its bank.
 #[derive(Drop)]
-pub struct Gate<B: Bank> {
+pub struct Gate<B: Bank, D: Door> {
     pub(crate) bank: B,
     pub(crate) number: u16,
     pub(crate) n: usize,
-    pub(crate) arms: [Arm; ARM_LIMIT],
+    pub(crate) arms: [Arm<D>; ARM_LIMIT],
 }
 
 // Clauses see a gate as its state. Only a making and calls lead to one.
-impl<B: Bank> Model for Gate<B> {
+impl<B: Bank, D: Door> Model for Gate<B, D> {
     ghost use Rattle.door.specs.States.{State};
     ghost use Rattle.gate.specs.Gates.{IsGate};
 
-    ghost Value = { State };
+    ghost Value = { State D };
 
     ghost view = { λ g. record { memory = B.memory g.bank; high = B.HIGHEST; number = g.number; n = g.n; regs = B.values g.bank; arms = g.arms } };
 
-    ghost invariant = { λ g. IsGate (record { memory = B.memory g.bank; high = B.HIGHEST; number = g.number; n = g.n; regs = B.values g.bank; arms = g.arms }) };
+    ghost invariant = { λ g. IsGate D.table (record { memory = B.memory g.bank; high = B.HIGHEST; number = g.number; n = g.n; regs = B.values g.bank; arms = g.arms }) };
 }
 
 /// What look tells of an arm.

@@ -1,66 +1,68 @@
-ghost use Rattle.std.specs.Prelude.{◌≡◌, ◌+◌, ◌*◌, ◌≤◌, length, nat_le};
+ghost use Rattle.std.specs.Prelude.{◌≡◌, ◌≤◌, length, nat_le};
 ghost use Rattle.door.specs.Limits.{arm_limit};
-ghost use Rattle.door.specs.Making.{arms_for, cleared, room};
+ghost use Rattle.door.specs.Making.{arms_for, cleared};
 ghost use Rattle.door.specs.States.{made};
 
 use crate::gate::Gate;
 use bank::Bank;
 use door::arm::{ARM_LIMIT, Arm};
-use door::position::Position;
+use doors::Door;
 
 // How many registers n arms take.
-pub(crate) fn registers(n: usize) -> usize
+pub(crate) fn registers<D: Door>(n: usize) -> usize
     requires { n ≤ arm_limit }
-    ensures { result ≡ room n }
+    ensures is { result ≡ D.table.room n }
+    ensures some { 1 ≤ result }
 {
-    3 * n + 1
+    D::room(n as u8)
 }
 
 // Whether the bank has the registers of n arms.
-fn has_room<B: Bank>(bank: &B, n: usize) -> bool
+fn has_room<B: Bank, D: Door>(bank: &B, n: usize) -> bool
     requires { n ≤ arm_limit }
-    ensures { result ≡ nat_le (room n) (length (B.values bank.now)) }
+    ensures { result ≡ nat_le (D.table.room n) (length (B.values bank.now)) }
 {
-    bank.read(registers(n) - 1).is_some()
+    bank.read(registers::<D>(n) - 1).is_some()
 }
 
 // How many arms a gate over this bank gets.
-fn arm_count<B: Bank>(bank: &B, wanted: usize) -> usize
-    ensures { result ≡ arms_for B.HIGHEST (length (B.values bank.now)) wanted }
+fn arm_count<B: Bank, D: Door>(bank: &B, wanted: usize) -> usize
+    ensures { result ≡ arms_for D.table B.HIGHEST (length (B.values bank.now)) wanted }
 {
-    if B::HIGHEST == 0 {
+    if B::HIGHEST < D::needed() {
         return 0;
     }
     let mut n = wanted.min(ARM_LIMIT);
-    while n > 0 && !has_room(bank, n) {
+    while n > 0 && !has_room::<B, D>(bank, n) {
         n -= 1;
     }
     n
 }
 
-// Writes 0 to registers 0 to count - 1.
-fn clear<B: Bank>(bank: &mut B, count: usize)
-    requires { count ≤ length (B.values bank.old) }
-    ensures after { B.values bank.new ≡ cleared count (B.values bank.old) }
+// Writes to registers 0 to count - 1 what they hold at first.
+fn clear<B: Bank, D: Door>(bank: &mut B, count: usize)
+    requires count { count ≤ length (B.values bank.old) }
+    requires high { D.table.needed ≤ B.HIGHEST }
+    ensures after { B.values bank.new ≡ cleared D.table count (B.values bank.old) }
     ensures lent { B.memory bank.new ≡ B.memory bank.old }
 {
     for i in 0..count {
-        let _ = bank.write(i, 0);
+        let _ = bank.write(i, D::first(i));
     }
 }
 
-impl<B: Bank> Gate<B> {
-    /// A gate over a bank, which it owns from then on; with the wanted arm count, or as many as there is room for, 32 at most.
+impl<B: Bank, D: Door> Gate<B, D> {
+    /// A gate over a bank, which it owns from then on; with the wanted arm count, or as many as the door has room for there, 32 at most.
     /// It cannot be refused.
-    pub fn make(mut bank: B, number: u16, wanted: usize) -> Gate<B>
-        ensures { result ≡ made (B.memory bank) B.HIGHEST number wanted (B.values bank) }
+    pub fn make(mut bank: B, number: u16, wanted: usize) -> Gate<B, D>
+        ensures { result ≡ made D.table (B.memory bank) B.HIGHEST number wanted (B.values bank) }
     {
-        let n = arm_count(&bank, wanted);
+        let n = arm_count::<B, D>(&bank, wanted);
         if n > 0 {
-            clear(&mut bank, registers(n));
+            clear::<B, D>(&mut bank, registers::<D>(n));
         }
         let arm = Arm {
-            position: Position::Idle,
+            position: D::idle(),
             side: None,
             visits: 0,
             out: false,

@@ -6,17 +6,17 @@ ghost use Rattle.door.specs.Calls.{after, knows};
 use crate::gate::Gate;
 use crate::pass::{HandedBack, Pass};
 use bank::Bank;
-use door::Refusal;
 use door::arm::Arm;
-use door::position::{Exit, Phase, Position};
+use door::{Phase, Refusal};
+use doors::Door;
 
-impl<B: Bank> Gate<B> {
+impl<B: Bank, D: Door> Gate<B, D> {
     /// Gives the pass of an arm inside, and marks it as out. Refuses with 1, 6 or 7.
     /// The pass must be spent by `leave`.
     pub fn admit(&mut self, arm: usize) -> Result<Pass, Refusal>
-        ensures answer { result ≡ admit_answer self.old arm }
-        ensures after { self.new ≡ after self.old (Admit arm) }
-        ensures known { IfOk result (λ pass. IsTrue (knows self.new pass.gate pass.arm)) }
+        ensures answer { result ≡ admit_answer D.table self.old arm }
+        ensures after { self.new ≡ after D.table self.old (Admit arm) }
+        ensures known { IfOk result (λ pass. IsTrue (knows D.table self.new pass.gate pass.arm)) }
     {
         let record = self.may_admit(arm)?;
         self.arms[arm - 1] = Arm {
@@ -33,7 +33,7 @@ impl<B: Bank> Gate<B> {
     /// Hands the pass back, with yes if it is of this gate and its arm's pass is out. It is never refused.
     pub fn confirm(&self, pass: Pass) -> (Pass, bool)
         ensures same { result.0 ≡ pass }
-        ensures answer { result.1 ≡ knows self.now pass.gate pass.arm }
+        ensures answer { result.1 ≡ knows D.table self.now pass.gate pass.arm }
     {
         let yes = self.knows(&pass);
         (pass, yes)
@@ -41,8 +41,8 @@ impl<B: Bank> Gate<B> {
 
     /// Spends a pass that `confirm` would say yes to, and sends its arm to the exit. Any other is handed back with 8.
     pub fn leave(&mut self, mut pass: Pass) -> Result<Phase, HandedBack>
-        ensures answer { result ≡ leave_answer self.old pass }
-        ensures after { self.new ≡ after self.old (Leave pass.gate pass.arm) }
+        ensures answer { result ≡ leave_answer D.table self.old pass }
+        ensures after { self.new ≡ after D.table self.old (Leave pass.gate pass.arm) }
     {
         if !self.knows(&pass) {
             return Err(HandedBack {
@@ -53,7 +53,7 @@ impl<B: Bank> Gate<B> {
         let at = pass.arm - 1;
         let record = self.arms[at];
         self.arms[at] = Arm {
-            position: Position::Leaving(Exit::X1),
+            position: D::exit(),
             out: false,
             ..record
         };

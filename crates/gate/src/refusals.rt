@@ -10,11 +10,12 @@ use crate::pass::Pass;
 use bank::Bank;
 use door::arm::Arm;
 use door::{Phase, Refusal};
+use doors::Door;
 
 // How many visits an arm begins at most.
 const VISIT_LIMIT: u32 = 1_000_000_000;
 
-impl<B: Bank> Gate<B> {
+impl<B: Bank, D: Door> Gate<B, D> {
     pub(crate) fn is_arm(&self, i: usize) -> bool
         ensures { result ≡ is_arm self.now i }
     {
@@ -22,9 +23,9 @@ impl<B: Bank> Gate<B> {
     }
 
     // The record of an arm that the gate has.
-    pub(crate) fn record(&self, i: usize) -> Result<Arm, Refusal>
-        ensures record { result ≡ record_for self.now (Look i) i }
-        ensures gate { IsGate self.now }
+    pub(crate) fn record(&self, i: usize) -> Result<Arm<D>, Refusal>
+        ensures record { result ≡ record_for D.table self.now (Look i) i }
+        ensures gate { IsGate D.table self.now }
     {
         let arms = &self.arms;
         if !self.is_arm(i) {
@@ -34,8 +35,8 @@ impl<B: Bank> Gate<B> {
     }
 
     // The record of an arm that may begin.
-    pub(crate) fn may_begin(&self, i: usize) -> Result<Arm, Refusal>
-        ensures { result ≡ record_for self.now (Begin i) i }
+    pub(crate) fn may_begin(&self, i: usize) -> Result<Arm<D>, Refusal>
+        ensures { result ≡ record_for D.table self.now (Begin i) i }
     {
         let arm = self.record(i)?;
         match arm.position.phase() {
@@ -46,9 +47,9 @@ impl<B: Bank> Gate<B> {
     }
 
     // The record of an arm that may step.
-    pub(crate) fn may_step(&self, i: usize) -> Result<Arm, Refusal>
-        ensures record { result ≡ record_for self.now (Step i) i }
-        ensures gate { IsGate self.now }
+    pub(crate) fn may_step(&self, i: usize) -> Result<Arm<D>, Refusal>
+        ensures record { result ≡ record_for D.table self.now (Step i) i }
+        ensures gate { IsGate D.table self.now }
     {
         let arm = self.record(i)?;
         match arm.position.phase() {
@@ -59,8 +60,8 @@ impl<B: Bank> Gate<B> {
     }
 
     // The record of an arm that may be admitted.
-    pub(crate) fn may_admit(&self, i: usize) -> Result<Arm, Refusal>
-        ensures { result ≡ record_for self.now (Admit i) i }
+    pub(crate) fn may_admit(&self, i: usize) -> Result<Arm<D>, Refusal>
+        ensures { result ≡ record_for D.table self.now (Admit i) i }
     {
         let arm = self.record(i)?;
         match arm.position.phase() {
@@ -71,9 +72,9 @@ impl<B: Bank> Gate<B> {
     }
 
     // The record of an arm that waits.
-    pub(crate) fn waits(&self, i: usize) -> Result<Arm, Refusal>
-        ensures record { result ≡ record_for self.now (Way i) i }
-        ensures gate { IsGate self.now }
+    pub(crate) fn waits(&self, i: usize) -> Result<Arm<D>, Refusal>
+        ensures record { result ≡ record_for D.table self.now (Way i) i }
+        ensures gate { IsGate D.table self.now }
     {
         let arm = self.record(i)?;
         match arm.position.phase() {
@@ -84,7 +85,7 @@ impl<B: Bank> Gate<B> {
 
     // Whether the pass is of this gate and its arm's pass is out.
     pub(crate) fn knows(&self, pass: &Pass) -> bool
-        ensures { result ≡ knows self.now pass.now.gate pass.now.arm }
+        ensures { result ≡ knows D.table self.now pass.now.gate pass.now.arm }
     {
         let i = pass.arm;
         let arms = &self.arms;

@@ -1,5 +1,5 @@
 ghost use Rattle.std.specs.Prelude.{◌≡◌};
-ghost use Rattle.gate.specs.Answers.{index_of, look_answer, tally_answer, most_answer};
+ghost use Rattle.gate.specs.Answers.{look_answer, tally_answer, most_answer};
 ghost use Rattle.door.specs.States.{bit_of};
 ghost use Rattle.gate.specs.Gates.{IsGate};
 
@@ -7,24 +7,14 @@ use crate::gate::{Gate, Tally, View};
 use crate::rows::largest;
 use bank::Bank;
 use door::Refusal;
-use door::access::value_at;
-use door::position::{GROUP, Position};
+use door::access::{GROUP, value_at};
+use doors::Door;
 
-// The arm that a waiting arm looks at, else 0.
-fn index_of(position: Position) -> usize
-    ensures { result ≡ index_of position }
-{
-    match position {
-        Position::Waiting(j, _) => usize::from(j),
-        _ => 0,
-    }
-}
-
-impl<B: Bank> Gate<B> {
+impl<B: Bank, D: Door> Gate<B, D> {
     /// How many arms the gate has, 32 at most. Of any gate in hand: only a making and calls lead to it.
     pub fn arm_count(&self) -> usize
         ensures arms { result ≡ self.now.n }
-        ensures gate { IsGate self.now }
+        ensures gate { IsGate D.table self.now }
     {
         self.n
     }
@@ -41,13 +31,13 @@ impl<B: Bank> Gate<B> {
 
     /// Phase, side, index, visits and mark of an arm. Refuses with 1.
     pub fn look(&self, arm: usize) -> Result<View, Refusal>
-        ensures { result ≡ look_answer self.now arm }
+        ensures { result ≡ look_answer D.table self.now arm }
     {
         let record = self.record(arm)?;
         Ok(View {
             phase: record.position.phase(),
             side: record.side,
-            index: index_of(record.position),
+            index: record.position.index(),
             visits: record.visits,
             out: record.out,
         })
@@ -56,7 +46,7 @@ impl<B: Bank> Gate<B> {
     /// How often the other arm went inside past this one, and whether it was idle when this one ended its doorway.
     /// Refuses with 1, for either arm.
     pub fn tally(&self, arm: usize, other: usize) -> Result<Tally, Refusal>
-        ensures { result ≡ tally_answer self.now arm other }
+        ensures { result ≡ tally_answer D.table self.now arm other }
     {
         let record = self.record(arm)?;
         self.record(other)?;
@@ -68,7 +58,7 @@ impl<B: Bank> Gate<B> {
 
     /// The most that any arm went inside past this one: the largest count of its row, 255 at most. Refuses with 1.
     pub fn most_passed(&self, arm: usize) -> Result<u8, Refusal>
-        ensures { result ≡ most_answer self.now arm }
+        ensures { result ≡ most_answer D.table self.now arm }
     {
         let record = self.record(arm)?;
         Ok(largest(&record.row, self.n))

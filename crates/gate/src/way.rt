@@ -7,16 +7,17 @@ use crate::gate::Gate;
 use bank::Bank;
 use door::Refusal;
 use door::arm::{ARM_LIMIT, Arm};
+use doors::Door;
 
 // Whether one of the first n arms has side t, in its doorway or past it.
-fn some_side(arms: &[Arm; ARM_LIMIT], n: usize, t: u64) -> bool
+fn some_side<D: Door>(arms: &[Arm<D>; ARM_LIMIT], n: usize, t: u64) -> bool
     requires { n ≤ arm_limit }
     ensures { result ≡ some_side t arms.now n }
 {
     arms[..n].iter().any(|arm| arm.has_side(t))
 }
 
-impl<B: Bank> Gate<B> {
+impl<B: Bank, D: Door> Gate<B, D> {
     // The group differs from a side, or no arm has the other side.
     fn is_free(&self, side: u64) -> bool
         ensures { result ≡ free_for self.now side }
@@ -26,12 +27,11 @@ impl<B: Bank> Gate<B> {
     }
 
     /// Whether a waiting arm has right of way. Refuses with 1 or 6. The gate in hand is fair, whatever was called on it.
-    #[tactic(auto, using(door::proofs::Fairness::law))]
     pub fn way(&self, arm: usize) -> Result<bool, Refusal>
-        ensures answer { result ≡ way_answer self.now arm }
-        ensures told { Tells self.now arm result }
-        ensures law { Law self.now }
-        ensures reached { IsReached self.now }
+        ensures answer { result ≡ way_answer D.table self.now arm }
+        ensures told { Tells D.table self.now arm result }
+        ensures law { Law D.table self.now }
+        ensures reached { IsReached D.table self.now }
     {
         let record = self.waits(arm)?;
         Ok(self.is_free(record.side_value()))

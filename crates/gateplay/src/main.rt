@@ -1,4 +1,4 @@
-//! Plays a schedule file from standard input on a gate over a bit bank, and prints the report,
+//! Plays a schedule file from standard input on a gate of three bits an arm over a bit bank, and prints the report,
 //! or the fault line of a file that is not played. It prints nothing else.
 //! It ends with status 0 after a play, 1 after a fault, and 2 where reading or writing fails.
 #![tactic(auto)]
@@ -9,6 +9,7 @@ ghost use Rattle.play.specs.Playing.{playable};
 ghost use Rattle.gateplay.specs.Shown.{shown, status_of};
 
 use bank::BitBank;
+use doors::ThreeBits;
 use play::{REPORT_ROOM, fault_line, play};
 use schedule::FILE_LIMIT;
 use std::io;
@@ -36,7 +37,7 @@ fn make_outcome(file: &[u8], memory: &mut [u8]) -> Outcome
     ensures status { result.status ≡ status_of (playable file.now (length memory.old)) }
 {
     let mut service = 0;
-    match play(file, BitBank::new(), memory, &mut service).answer {
+    match play::<_, ThreeBits>(file, BitBank::new(), memory, &mut service).answer {
         Ok(length) => Outcome {
             length,
             status: PLAYED,

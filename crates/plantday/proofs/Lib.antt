@@ -1,1 +1,3 @@
 mod Called
+mod Filled
+mod Noted

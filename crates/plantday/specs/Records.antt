@@ -3,8 +3,9 @@ use Rattle.std.specs.Prelude.{ℕ, ◌+◌, ◌-◌, ◌^◌, min, max, Bool, fa
 use Rattle.std.specs.List.{list_any, range_with_len}
 use Rattle.door.specs.History.{is_in}
 use Rattle.door.specs.States.{State, is_arm, arm_at}
-use Rattle.door.specs.declared.position.Phase.{Phase}
-use Rattle.door.specs.declared.position.Phase.TheVariants as P
+use Rattle.door.specs.Table.{Table}
+use Rattle.door.specs.declared.phase.Phase.{Phase}
+use Rattle.door.specs.declared.phase.Phase.TheVariants as P
 use Rattle.gate.specs.Answers.{largest_count}
 use Rattle.plantday.specs.declared.record.Record.{Record}
 
@@ -52,26 +53,27 @@ with_round due rounds r = record r { due = due; rounds = rounds }
 abbrev pub some_due : List Bool → Bool
 some_due due = list_any (λ d. d) due
 
--- an arm that the gate has and that is not idle
-abbrev pub is_busy : State → ℕ → Bool
-is_busy s k = if is_arm s (k + 1) then not (is_in P.I s (k + 1)) else false
+module _ {At : Type 0} (door : Table At) where
+  -- an arm that the gate has and that is not idle
+  abbrev pub is_busy : State At → ℕ → Bool
+  is_busy s k = if is_arm s (k + 1) then not (is_in door P.I s (k + 1)) else false
 
--- arm k + 1 moved: a round is over once no arm is due, and then every arm that is not idle is
-abbrev pub with_move : State → ℕ → Record → Record
-with_move s k r =
-    let left = slice_set r.due k false in
-    (if some_due left then with_round left r.rounds r else with_round (map (is_busy s) (range_with_len 0 plant_arms)) (more r.rounds) r)
+  -- arm k + 1 moved: a round is over once no arm is due, and then every arm that is not idle is
+  abbrev pub with_move : State At → ℕ → Record → Record
+  with_move s k r =
+      let left = slice_set r.due k false in
+      (if some_due left then with_round left r.rounds r else with_round (map (is_busy s) (range_with_len 0 plant_arms)) (more r.rounds) r)
 
--- arm k + 1 was inside, and its pass not out: its reading was delivered, and it left; the gate is s then
-abbrev pub with_leave : State → ℕ → Record → Record
-with_leave s k r = with_move s k (with_delivery k r)
+  -- arm k + 1 was inside, and its pass not out: its reading was delivered, and it left; the gate is s then
+  abbrev pub with_leave : State At → ℕ → Record → Record
+  with_leave s k r = with_move s k (with_delivery k r)
 
--- the largest count in the row of arm k + 1
-abbrev pub most_past : State → ℕ → ℕ
-most_past s k = largest_count (arm_at s (k + 1)).row s.n
+  -- the largest count in the row of arm k + 1
+  abbrev pub most_past : State At → ℕ → ℕ
+  most_past s k = largest_count (arm_at door s (k + 1)).row s.n
 
--- arm k + 1 stepped from one phase to another; the gate is s then
-abbrev pub noted : State → ℕ → Phase → Phase → Record → Record
-noted s k P.D P.W r = with_wait k r
-noted s k P.W P.F r = with_entry k (most_past s k) r
-noted s k from to r = r
+  -- arm k + 1 stepped from one phase to another; the gate is s then
+  abbrev pub noted : State At → ℕ → Phase → Phase → Record → Record
+  noted s k P.D P.W r = with_wait k r
+  noted s k P.W P.F r = with_entry k (most_past s k) r
+  noted s k from to r = r

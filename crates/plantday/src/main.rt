@@ -1,5 +1,6 @@
 //! A day at a plant: a seeded scheduler that is deliberately unfair steps six arms over a byte bank.
-//! It prints for each arm how many readings were delivered, the most that it was passed, and the longest wait in rounds.
+//! It prints for each arm how many readings were delivered, the most that it was passed, and the longest wait in rounds;
+//! then the same of a day through the four-valued door.
 #![tactic(auto)]
 
 ghost use Rattle.std.specs.Prelude.{◌≡◌, ℕ, ◌+◌, ◌<◌, length, replicate, None};
@@ -17,7 +18,9 @@ use crate::dice::Dice;
 use crate::record::{ARMS, Record};
 use bank::{Bank, ByteBank};
 use door::Phase;
+use doors::{Door, FourValued, ThreeBits};
 use gate::Gate;
+use std::marker::PhantomData;
 
 const SEED: u64 = 20_261_117;
 
@@ -26,14 +29,20 @@ const TURNS: u32 = 200_000;
 // The gate's number.
 const NUMBER: u16 = 7;
 
-// The registers of the plant's arms.
+// The registers of the plant's arms, and those that they take at the four-valued door.
 const REGISTERS: usize = 3 * ARMS + 1;
+
+const REGISTERS_FOUR_VALUED: usize = ARMS + 1;
 
 // No arm goes inside more often past a waiting one.
 const MOST_PASSED: u8 = 2;
 
 // No arm waits longer, in rounds.
 const MOST_ROUNDS: usize = 50 * ARMS + 10;
+
+// The kind of gate that a day is spent on: through this door, over bytes. Where the door is left open, a function that makes
+// such a gate names its kind in its header, since nothing else says that it is not larger than memory.
+type Kind<'a, D> = PhantomData<Gate<ByteBank<&'a mut [u8]>, D>>;
 
 // Two arms get seven turns of ten, and the last one hardly any.
 fn pick(dice: &mut Dice) -> usize
@@ -49,11 +58,11 @@ fn pick(dice: &mut Dice) -> usize
 }
 
 // Carries a reading of arm k + 1, which is inside, into the table, and lets the arm go.
-fn deliver<B: Bank>(gate: &mut Gate<B>, k: usize, record: &mut Record)
+fn deliver<B: Bank, D: Door>(gate: &mut Gate<B, D>, k: usize, record: &mut Record)
     requires arm { k < plant_arms }
-    requires inside { refusal_of gate.old (Admit (k + 1)) ≡ None }
-    ensures calls { Called gate.old gate.new }
-    ensures noted { «record».new ≡ with_leave gate.new k «record».old }
+    requires inside { refusal_of D.table gate.old (Admit (k + 1)) ≡ None }
+    ensures calls { Called D.table gate.old gate.new }
+    ensures noted { «record».new ≡ with_leave D.table gate.new k «record».old }
 {
     let pass = gate.admit(k + 1).unwrap();
     let (pass, known) = gate.confirm(pass);
@@ -65,10 +74,10 @@ fn deliver<B: Bank>(gate: &mut Gate<B>, k: usize, record: &mut Record)
 }
 
 // Notes that arm k + 1 stepped from one phase to another.
-fn note<B: Bank>(gate: &Gate<B>, k: usize, from: Phase, to: Phase, record: &mut Record)
+fn note<B: Bank, D: Door>(gate: &Gate<B, D>, k: usize, from: Phase, to: Phase, record: &mut Record)
     requires arm { k < plant_arms }
     requires arms { gate.now.n ≡ plant_arms }
-    ensures { «record».new ≡ noted gate.now k from to «record».old }
+    ensures { «record».new ≡ noted D.table gate.now k from to «record».old }
 {
     match (from, to) {
         (Phase::D, Phase::W) => record.waits(k),
@@ -78,10 +87,10 @@ fn note<B: Bank>(gate: &Gate<B>, k: usize, from: Phase, to: Phase, record: &mut 
 }
 
 // One turn of arm k + 1, whatever its phase asks for.
-fn turn<B: Bank>(gate: &mut Gate<B>, k: usize, dice: &mut Dice, record: &mut Record)
+fn turn<B: Bank, D: Door>(gate: &mut Gate<B, D>, k: usize, dice: &mut Dice, record: &mut Record)
     requires arm { k < plant_arms }
     requires arms { gate.old.n ≡ plant_arms }
-    ensures { Called gate.old gate.new }
+    ensures { Called D.table gate.old gate.new }
 {
     let arm = k + 1;
     let view = gate.look(arm).unwrap();
@@ -104,12 +113,12 @@ fn turn<B: Bank>(gate: &mut Gate<B>, k: usize, dice: &mut Dice, record: &mut Rec
 }
 
 // A whole day on a new gate. Nothing but calls was made on it, so it is fair.
-fn whole_day<B: Bank>(bank: B, record: &mut Record) -> Gate<B>
-    requires { arms_for B.HIGHEST (length (B.values bank)) plant_arms ≡ plant_arms }
-    ensures fair { FairDay (made (B.memory bank) B.HIGHEST 7 plant_arms (B.values bank)) result }
+fn whole_day<B: Bank, D: Door>(bank: B, record: &mut Record) -> Gate<B, D>
+    requires { arms_for D.table B.HIGHEST (length (B.values bank)) plant_arms ≡ plant_arms }
+    ensures fair { FairDay D.table (made D.table (B.memory bank) B.HIGHEST 7 plant_arms (B.values bank)) result }
     ensures lent { result.memory ≡ B.memory bank }
 {
-    let mut gate = Gate::make(bank, NUMBER, ARMS);
+    let mut gate = Gate::<B, D>::make(bank, NUMBER, ARMS);
     let mut dice = Dice::new(SEED);
     for t in 0..TURNS {
         let k = pick(&mut dice);
@@ -119,27 +128,42 @@ fn whole_day<B: Bank>(bank: B, record: &mut Record) -> Gate<B>
 }
 
 // A day on a gate over the plant's own memory, and that memory when the gate has ended: it holds the gate's registers.
-fn day_over<'a>(memory: &'a mut [u8], record: &mut Record) -> &'a mut [u8]
-    requires { arms_for 255 (length memory.old) plant_arms ≡ plant_arms }
+fn day_over<'a, D: Door>(
+    memory: &'a mut [u8],
+    record: &mut Record,
+    _kind: Kind<'a, D>,
+) -> &'a mut [u8]
+    requires { arms_for D.table 255 (length memory.old) plant_arms ≡ plant_arms }
     ensures lent { result.ghost_name ≡ memory.entry.ghost_name }
-    ensures registers { HoldsFairDay (made memory.entry.ghost_name 255 7 plant_arms memory.old) result.now }
+    ensures registers { HoldsFairDay D.table (made D.table memory.entry.ghost_name 255 7 plant_arms memory.old) result.now }
 {
-    let gate = whole_day(ByteBank::new(memory), record);
+    let gate = whole_day::<_, D>(ByteBank::new(memory), record);
     gate.into_bank().into_memory()
 }
 
-// The memory of a plant that lent it for a day.
-fn memory_after_day(record: &mut Record) -> [u8; REGISTERS]
-    ensures { (memory : ℕ) × HoldsFairDay (made memory 255 7 plant_arms (replicate 19 0)) result }
+// Lends memory for a day: afterwards it holds the gate's registers.
+fn lend<D: Door>(memory: &mut [u8], record: &mut Record, _kind: Kind<'static, D>)
+    requires { arms_for D.table 255 (length memory.old) plant_arms ≡ plant_arms }
+    ensures { (name : ℕ) × HoldsFairDay D.table (made D.table name 255 7 plant_arms memory.old) memory.new }
 {
-    let mut memory = [0; REGISTERS];
-    let _ = day_over(&mut memory, record);
+    let _ = day_over::<D>(memory, record, PhantomData);
+}
+
+// The memory of a plant that lent so many registers for a day.
+fn memory_after_day<D: Door, const COUNT: usize>(
+    record: &mut Record,
+    kind: Kind<'static, D>,
+) -> [u8; COUNT]
+    requires { arms_for D.table 255 COUNT plant_arms ≡ plant_arms }
+    ensures { (memory : ℕ) × HoldsFairDay D.table (made D.table memory 255 7 plant_arms (replicate COUNT 0)) result }
+{
+    let mut memory = [0; COUNT];
+    lend(&mut memory, record, kind);
     memory
 }
 
-fn main(rt: HostRuntime) -> anyhow::Result<()> {
-    let mut record = Record::new();
-    let _ = memory_after_day(&mut record);
+// What the day comes to for each arm.
+fn show(rt: &HostRuntime, record: &Record) -> anyhow::Result<()> {
     for k in 0..ARMS {
         let arm = k + 1;
         let delivered = record.delivered[k];
@@ -150,4 +174,14 @@ fn main(rt: HostRuntime) -> anyhow::Result<()> {
         )?;
     }
     Ok(())
+}
+
+fn main(rt: HostRuntime) -> anyhow::Result<()> {
+    let mut record = Record::new();
+    let _ = memory_after_day::<ThreeBits, REGISTERS>(&mut record, PhantomData);
+    show(&rt, &record)?;
+    println!(rt; "through the four-valued door")?;
+    let mut record = Record::new();
+    let _ = memory_after_day::<FourValued, REGISTERS_FOUR_VALUED>(&mut record, PhantomData);
+    show(&rt, &record)
 }

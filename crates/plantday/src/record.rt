@@ -4,8 +4,8 @@ ghost use Rattle.plantday.specs.Records.{plant_arms, fresh, with_delivery, with_
 
 use bank::Bank;
 use door::Phase;
+use doors::Door;
 use gate::Gate;
-use std::array;
 
 // How many arms the plant has.
 pub const ARMS: usize = 6;
@@ -67,9 +67,9 @@ impl Record {
     }
 
     // Arm k + 1 moved: a round is over once every arm that was not idle at its start has moved.
-    pub(crate) fn moved<B: Bank>(&mut self, gate: &Gate<B>, k: usize)
+    pub(crate) fn moved<B: Bank, D: Door>(&mut self, gate: &Gate<B, D>, k: usize)
         requires { k < plant_arms }
-        ensures { self.new ≡ with_move gate.now k self.old }
+        ensures { self.new ≡ with_move D.table gate.now k self.old }
     {
         self.due[k] = false;
         if !is_due(&self.due) {
@@ -87,16 +87,20 @@ fn is_due(due: &[bool; ARMS]) -> bool
 }
 
 // Whether the gate has arm k + 1 and it is not idle.
-fn is_busy<B: Bank>(gate: &Gate<B>, k: usize) -> bool
+fn is_busy<B: Bank, D: Door>(gate: &Gate<B, D>, k: usize) -> bool
     requires { k < plant_arms }
-    ensures { result ≡ is_busy gate.now k }
+    ensures { result ≡ is_busy D.table gate.now k }
 {
     matches!(gate.look(k + 1), Ok(view) if view.phase != Phase::I)
 }
 
 // The arms that are not idle.
-fn busy_arms<B: Bank>(gate: &Gate<B>) -> [bool; ARMS]
-    ensures { result ≡ map (is_busy gate.now) (range_with_len 0 plant_arms) }
+fn busy_arms<B: Bank, D: Door>(gate: &Gate<B, D>) -> [bool; ARMS]
+    ensures { result ≡ map (is_busy D.table gate.now) (range_with_len 0 plant_arms) }
 {
-    array::from_fn(|k| is_busy(gate, k))
+    let mut busy = [false; ARMS];
+    for k in 0..ARMS {
+        busy[k] = is_busy(gate, k);
+    }
+    busy
 }

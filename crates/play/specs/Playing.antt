@@ -1,6 +1,7 @@
 -- What playing a file comes to.
 use Rattle.std.specs.Prelude.{◌≡◌, ℕ, ◌+◌, ◌≤◌, IfOk, List, [], ◌∷◌, length, Ok, Err, Option, Result, is_some, if◌then◌else◌, nat_le}
 use Rattle.door.specs.Calls.{refusal_of, after, unless}
+use Rattle.door.specs.Table.{Table}
 use Rattle.door.specs.States.{State, made}
 use Rattle.door.specs.declared.call.Call.TheVariants.{Begin as begin, Step as step, Admit as admit, Leave as leave}
 use Rattle.door.specs.declared.refusal.Refusal.{Refusal}
@@ -14,74 +15,75 @@ use Rattle.play.specs.Limits.{report_room}
 use Rattle.play.specs.Reports.{report_text}
 use Rattle.play.specs.Text.{overwritten}
 
--- why the gate refuses an order; none where it obeys
-abbrev pub order_refusal : State → Order → Option Refusal
-order_refusal s (Begin i) = refusal_of s (begin i)
-order_refusal s (Step i) = refusal_of s (step i)
-order_refusal s (Leave i) = refusal_of s (admit i)
-
--- an arm that is admitted and leaves
-abbrev pub left_at_once : State → ℕ → State
-left_at_once s i = unless (refusal_of s (admit i)) (after (after s (admit i)) (leave s.number i)) s
-
--- the gate after an order; a leave order admits and leaves
-abbrev pub obeyed : State → Order → State
-obeyed s (Begin i) = after s (begin i)
-obeyed s (Step i) = after s (step i)
-obeyed s (Leave i) = left_at_once s i
-
--- the gate after all orders, and how many it refused
-abbrev pub obeyed_all : State → List Order → State
-obeyed_all s [] = s
-obeyed_all s (o ∷ os) = obeyed_all (obeyed s o) os
-
-abbrev pub refusals : State → List Order → ℕ
-refusals s [] = 0
-refusals s (o ∷ os) = (if is_some (order_refusal s o) then 1 else 0) + refusals (obeyed s o) os
-
 -- what a file says, to a play with so much report memory: too long, then too little memory, then its first fault
 abbrev pub playable : List ℕ → ℕ → Result Contents PlayFault
 playable file room =
     if nat_le (length file) file_limit then (if nat_le report_room room then says file else Err ShortMemory) else Err LongFile
 
--- gate 0 over a bank, made for a file and after its orders
-abbrev pub start : ℕ → ℕ → List ℕ → Contents → State
-start lent high regs c = made lent high 0 c.arms regs
+module _ {At : Type 0} (door : Table At) where
+  -- why the gate refuses an order; none where it obeys
+  abbrev pub order_refusal : State At → Order → Option Refusal
+  order_refusal s (Begin i) = refusal_of door s (begin i)
+  order_refusal s (Step i) = refusal_of door s (step i)
+  order_refusal s (Leave i) = refusal_of door s (admit i)
 
-abbrev pub end : ℕ → ℕ → List ℕ → Contents → State
-end lent high regs c = obeyed_all (start lent high regs c) c.orders
+  -- an arm that is admitted and leaves
+  abbrev pub left_at_once : State At → ℕ → State At
+  left_at_once s i = unless (refusal_of door s (admit i)) (after door (after door s (admit i)) (leave s.number i)) s
 
-abbrev pub play_text : ℕ → ℕ → List ℕ → Contents → List ℕ
-play_text lent high regs c = report_text (end lent high regs c) (length c.orders) (refusals (start lent high regs c) c.orders)
+  -- the gate after an order; a leave order admits and leaves
+  abbrev pub obeyed : State At → Order → State At
+  obeyed s (Begin i) = after door s (begin i)
+  obeyed s (Step i) = after door s (step i)
+  obeyed s (Leave i) = left_at_once s i
 
--- what play answers, and what the bank and the report memory then hold
-abbrev pub play_answer : ℕ → ℕ → List ℕ → Result Contents PlayFault → Result ℕ PlayFault
-play_answer lent high regs (Ok c) = Ok (length (play_text lent high regs c))
-play_answer lent high regs (Err fault) = Err fault
+  -- the gate after all orders, and how many it refused
+  abbrev pub obeyed_all : State At → List Order → State At
+  obeyed_all s [] = s
+  obeyed_all s (o ∷ os) = obeyed_all (obeyed s o) os
 
-abbrev pub play_regs : ℕ → ℕ → List ℕ → Result Contents PlayFault → List ℕ
-play_regs lent high regs (Ok c) = (end lent high regs c).regs
-play_regs lent high regs (Err fault) = regs
+  abbrev pub refusals : State At → List Order → ℕ
+  refusals s [] = 0
+  refusals s (o ∷ os) = (if is_some (order_refusal s o) then 1 else 0) + refusals (obeyed s o) os
 
-abbrev pub play_memory : ℕ → ℕ → List ℕ → List ℕ → Result Contents PlayFault → List ℕ
-play_memory lent high regs memory (Ok c) = overwritten memory (play_text lent high regs c)
-play_memory lent high regs memory (Err fault) = memory
+  -- gate 0 over a bank, made for a file and after its orders
+  abbrev pub start : ℕ → ℕ → List ℕ → Contents → State At
+  start lent high regs c = made door lent high 0 c.arms regs
 
--- what a play comes to, over a bank (which borrowed memory it writes, its highest value, its registers) and with report memory:
--- what it answers, and what both then are
-pub record IsPlayed (lent high : ℕ) (regs file memory : List ℕ) (answer_is : Result ℕ PlayFault) (lent_is : ℕ) (regs_are memory_is : List ℕ) : Type 0 where
-  -- the length of the report, or the fault
-  pub answer : answer_is ≡ play_answer lent high regs (playable file (length memory))
-  -- the bank is over the memory that it was over
-  pub same_bank : lent_is ≡ lent
-  -- the registers after the orders, or as they were
-  pub registers : regs_are ≡ play_regs lent high regs (playable file (length memory))
-  -- the report at the start of the memory, or the memory as it was
-  pub report : memory_is ≡ play_memory lent high regs memory (playable file (length memory))
-  -- a report always fits the least memory
-  pub fits : IfOk answer_is (λ n. n ≤ report_room)
+  abbrev pub end : ℕ → ℕ → List ℕ → Contents → State At
+  end lent high regs c = obeyed_all (start lent high regs c) c.orders
 
--- a gate in hand after the orders of a file
-abbrev pub obeyed_by : Result Contents PlayFault → State → State
-obeyed_by (Ok c) s = obeyed_all s c.orders
-obeyed_by (Err fault) s = s
+  abbrev pub play_text : ℕ → ℕ → List ℕ → Contents → List ℕ
+  play_text lent high regs c = report_text door (end lent high regs c) (length c.orders) (refusals (start lent high regs c) c.orders)
+
+  -- what play answers, and what the bank and the report memory then hold
+  abbrev pub play_answer : ℕ → ℕ → List ℕ → Result Contents PlayFault → Result ℕ PlayFault
+  play_answer lent high regs (Ok c) = Ok (length (play_text lent high regs c))
+  play_answer lent high regs (Err fault) = Err fault
+
+  abbrev pub play_regs : ℕ → ℕ → List ℕ → Result Contents PlayFault → List ℕ
+  play_regs lent high regs (Ok c) = (end lent high regs c).regs
+  play_regs lent high regs (Err fault) = regs
+
+  abbrev pub play_memory : ℕ → ℕ → List ℕ → List ℕ → Result Contents PlayFault → List ℕ
+  play_memory lent high regs memory (Ok c) = overwritten memory (play_text lent high regs c)
+  play_memory lent high regs memory (Err fault) = memory
+
+  -- what a play comes to, over a bank (which borrowed memory it writes, its highest value, its registers) and with report memory:
+  -- what it answers, and what both then are
+  pub record IsPlayed (lent high : ℕ) (regs file memory : List ℕ) (answer_is : Result ℕ PlayFault) (lent_is : ℕ) (regs_are memory_is : List ℕ) : Type 0 where
+    -- the length of the report, or the fault
+    pub answer : answer_is ≡ play_answer lent high regs (playable file (length memory))
+    -- the bank is over the memory that it was over
+    pub same_bank : lent_is ≡ lent
+    -- the registers after the orders, or as they were
+    pub registers : regs_are ≡ play_regs lent high regs (playable file (length memory))
+    -- the report at the start of the memory, or the memory as it was
+    pub report : memory_is ≡ play_memory lent high regs memory (playable file (length memory))
+    -- a report always fits the least memory
+    pub fits : IfOk answer_is (λ n. n ≤ report_room)
+
+  -- a gate in hand after the orders of a file
+  abbrev pub obeyed_by : Result Contents PlayFault → State At → State At
+  obeyed_by (Ok c) s = obeyed_all s c.orders
+  obeyed_by (Err fault) s = s

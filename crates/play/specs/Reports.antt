@@ -1,6 +1,7 @@
 -- The text of a report and of a fault, and the memory that takes it.
-use Rattle.std.specs.Prelude.{ℕ, ◌+◌, Bool, if◌then◌else◌, List, [], ◌∷◌, ◌++◌, length, Some, None, Ok, Err, codes, decimal, Option, Result, nat_le}
-use Rattle.door.specs.Positions.{letter_of}
+use Rattle.std.specs.Prelude.{ℕ, ◌+◌, Bool, if◌then◌else◌, List, ◌++◌, length, Some, None, Ok, Err, codes, decimal, Option, Result, nat_le}
+use Rattle.door.specs.Phases.{letter_of}
+use Rattle.door.specs.Table.{Table}
 use Rattle.door.specs.States.{State, arm_at, phase_at, bit_of}
 use Rattle.gate.specs.Answers.{largest_count}
 use Rattle.schedule.specs.Faults.{fault_number, fault_place, fault_order, fault_layer}
@@ -16,20 +17,22 @@ abbrev pub side_text : Option ℕ → List ℕ
 side_text (Some s) = decimal s
 side_text None = codes "-"
 
--- the line of arm k + 1
-abbrev pub arm_line : State → ℕ → List ℕ
-arm_line s k =
-    decimal (k + 1) ++ codes " " ++ letter_of (phase_at s (k + 1))
-    ++ codes " " ++ side_text (arm_at s (k + 1)).side ++ codes " " ++ decimal (arm_at s (k + 1)).visits
-    ++ codes " " ++ decimal (largest_count (arm_at s (k + 1)).row s.n) ++ codes "\n"
-
-abbrev pub first_line : State → ℕ → ℕ → List ℕ
+-- the line on the whole play
+abbrev pub first_line : {At : Type 0} → State At → ℕ → ℕ → List ℕ
 first_line s orders refused =
     codes "arms " ++ decimal s.n ++ codes " orders " ++ decimal orders
     ++ codes " refused " ++ decimal refused ++ codes " bit " ++ decimal (bit_of s) ++ codes "\n"
 
-abbrev pub report_text : State → ℕ → ℕ → List ℕ
-report_text s orders refused = first_line s orders refused ++ lines (arm_line s) s.n
+module _ {At : Type 0} (door : Table At) where
+  -- the line of arm k + 1
+  abbrev pub arm_line : State At → ℕ → List ℕ
+  arm_line s k =
+      decimal (k + 1) ++ codes " " ++ letter_of (phase_at door s (k + 1))
+      ++ codes " " ++ side_text (arm_at door s (k + 1)).side ++ codes " " ++ decimal (arm_at door s (k + 1)).visits
+      ++ codes " " ++ decimal (largest_count (arm_at door s (k + 1)).row s.n) ++ codes "\n"
+
+  abbrev pub report_text : State At → ℕ → ℕ → List ℕ
+  report_text s orders refused = first_line s orders refused ++ lines (arm_line s) s.n
 
 abbrev pub layer_word : Layer → List ℕ
 layer_word L.Number = codes "number"

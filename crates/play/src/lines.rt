@@ -1,10 +1,12 @@
-ghost use Rattle.std.specs.Prelude.{◌≡◌, ◌<◌, ◌≤◌, length};
+ghost use Rattle.std.specs.Prelude.{◌≡◌, ◌<◌, ◌≤◌, ◌++◌, length, codes, decimal};
 ghost use Rattle.door.specs.Limits.{arm_limit};
+ghost use Rattle.door.specs.Phases.{letter_of};
 ghost use Rattle.play.specs.Reports.{side_text, arm_line, first_line};
 
 use arrayvec::ArrayString;
 use bank::Bank;
-use gate::Gate;
+use doors::Door;
+use gate::{Gate, View};
 use itoa::Buffer;
 
 // No first line is longer, whatever its numbers are.
@@ -25,8 +27,8 @@ fn side_text(side: Option<u64>, digits: &mut Buffer) -> &str
 }
 
 // The line on the whole play.
-pub(crate) fn first_line<B: Bank>(
-    gate: &Gate<B>,
+pub(crate) fn first_line<B: Bank, D: Door>(
+    gate: &Gate<B, D>,
     orders: usize,
     refused: usize,
 ) -> ArrayString<FIRST_ROOM>
@@ -46,14 +48,12 @@ pub(crate) fn first_line<B: Bank>(
     line
 }
 
-// The line of arm k + 1: arm, phase, side, visits and the largest count of its row.
-pub(crate) fn arm_line<B: Bank>(gate: &Gate<B>, k: usize) -> ArrayString<LINE_ROOM>
-    requires arm { k < gate.now.n }
-    requires few { gate.now.n ≤ arm_limit }
-    ensures { result.bytes ≡ arm_line gate.now k }
+// The line of an arm: arm, phase, side, visits and the largest count of its row.
+fn view_line(arm: usize, view: View, most: u8) -> ArrayString<LINE_ROOM>
+    ensures { result.bytes
+        ≡ decimal arm ++ codes " " ++ letter_of view.phase ++ codes " " ++ side_text view.side
+        ++ codes " " ++ decimal view.visits ++ codes " " ++ decimal most ++ codes "\n" }
 {
-    let arm = k + 1;
-    let view = gate.look(arm).unwrap();
     let mut digits = Buffer::new();
     let mut line = ArrayString::new();
     line.push_str(digits.format(arm));
@@ -64,7 +64,19 @@ pub(crate) fn arm_line<B: Bank>(gate: &Gate<B>, k: usize) -> ArrayString<LINE_RO
     line.push_str(" ");
     line.push_str(digits.format(view.visits));
     line.push_str(" ");
-    line.push_str(digits.format(gate.most_passed(arm).unwrap()));
+    line.push_str(digits.format(most));
     line.push_str("\n");
     line
+}
+
+// The line of arm k + 1.
+pub(crate) fn arm_line<B: Bank, D: Door>(gate: &Gate<B, D>, k: usize) -> ArrayString<LINE_ROOM>
+    requires arm { k < gate.now.n }
+    requires few { gate.now.n ≤ arm_limit }
+    ensures { result.bytes ≡ arm_line D.table gate.now k }
+{
+    let arm = k + 1;
+    let view = gate.look(arm).unwrap();
+    let most = gate.most_passed(arm).unwrap();
+    view_line(arm, view, most)
 }

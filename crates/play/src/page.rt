@@ -8,6 +8,7 @@ use crate::lines::{FIRST_ROOM, LINE_ROOM, arm_line, first_line};
 use arrayvec::ArrayString;
 use bank::Bank;
 use door::arm::ARM_LIMIT;
+use doors::Door;
 use gate::Gate;
 use itoa::Buffer;
 use schedule::{Layer, PlayFault};
@@ -79,16 +80,16 @@ pub fn fault_line(fault: PlayFault, memory: &mut [u8]) -> Result<usize, PlayFaul
 }
 
 // Puts the report of a gate at the start of memory that has room for any report, and answers its length.
-pub(crate) fn put_report<B: Bank>(
-    gate: &Gate<B>,
+pub(crate) fn put_report<B: Bank, D: Door>(
+    gate: &Gate<B, D>,
     orders: usize,
     refused: usize,
     memory: &mut [u8],
 ) -> usize
     requires { report_room ≤ length memory.old }
-    ensures answer { result ≡ length (report_text gate.now orders refused) }
+    ensures answer { result ≡ length (report_text D.table gate.now orders refused) }
     ensures after { memory.new
-        ≡ overwritten memory.old (report_text gate.now orders refused) }
+        ≡ overwritten memory.old (report_text D.table gate.now orders refused) }
     ensures fits { result ≤ report_room }
 {
     let mut page = ArrayString::<PAGE_ROOM>::new();
@@ -102,15 +103,15 @@ pub(crate) fn put_report<B: Bank>(
 /// Puts the report of a gate after so many orders, of which some were refused, at the start of the memory,
 /// and answers its length.
 /// With fewer than 1,024 bytes it answers that the memory is short, and leaves it as it was.
-pub fn report<B: Bank>(
-    gate: &Gate<B>,
+pub fn report<B: Bank, D: Door>(
+    gate: &Gate<B, D>,
     orders: usize,
     refused: usize,
     memory: &mut [u8],
 ) -> Result<usize, PlayFault>
-    ensures answer { result ≡ text_answer memory.old (report_text gate.now orders refused) }
+    ensures answer { result ≡ text_answer memory.old (report_text D.table gate.now orders refused) }
     ensures after { memory.new
-        ≡ text_memory memory.old (report_text gate.now orders refused) }
+        ≡ text_memory memory.old (report_text D.table gate.now orders refused) }
     ensures fits { IfOk result (λ n. n ≤ report_room) }
 {
     ask_room(memory.len())?;

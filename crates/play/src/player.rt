@@ -8,20 +8,24 @@ use crate::page::{ask_room, put_report};
 use crate::service::Service;
 use bank::Bank;
 use door::Refusal;
+use doors::Door;
 use gate::Gate;
 use schedule::{File, Order, PlayFault, Schedule};
+use std::marker::PhantomData;
 
-/// The bank of a play that is over, and the length of its report in bytes or why there was none.
+/// The bank of a play that is over, and the length of its report in bytes or why there was none; G is the kind of gate that played.
 #[derive(Drop)]
-pub struct Played<B> {
+pub struct Played<B, G> {
     pub bank: B,
     pub answer: Result<usize, PlayFault>,
+    // That a gate of this kind is no larger than memory is known of a function whose header names the kind.
+    kind: PhantomData<G>,
 }
 
 // Admits an arm and lets it leave at once, unless the gate refuses it.
-fn leave_at_once<B: Bank>(gate: &mut Gate<B>, arm: usize) -> Result<(), Refusal>
-    ensures answer { result_err result ≡ refusal_of gate.old (Admit arm) }
-    ensures after { gate.new ≡ left_at_once gate.old arm }
+fn leave_at_once<B: Bank, D: Door>(gate: &mut Gate<B, D>, arm: usize) -> Result<(), Refusal>
+    ensures answer { result_err result ≡ refusal_of D.table gate.old (Admit arm) }
+    ensures after { gate.new ≡ left_at_once D.table gate.old arm }
 {
     let pass = gate.admit(arm)?;
     gate.leave(pass).unwrap();
@@ -29,9 +33,9 @@ fn leave_at_once<B: Bank>(gate: &mut Gate<B>, arm: usize) -> Result<(), Refusal>
 }
 
 // Obeys one order, unless the gate refuses it.
-fn obey<B: Bank>(gate: &mut Gate<B>, order: Order) -> Option<Refusal>
-    ensures answer { result ≡ order_refusal gate.old order }
-    ensures after { gate.new ≡ obeyed gate.old order }
+fn obey<B: Bank, D: Door>(gate: &mut Gate<B, D>, order: Order) -> Option<Refusal>
+    ensures answer { result ≡ order_refusal D.table gate.old order }
+    ensures after { gate.new ≡ obeyed D.table gate.old order }
 {
     match order {
         Order::Begin(arm) => gate.begin(usize::from(arm)).err(),
@@ -48,9 +52,9 @@ fn count(refusal: Option<Refusal>) -> usize
 }
 
 // Obeys the orders of a schedule one after another, and answers how many the gate refused.
-fn obey_all<B: Bank>(gate: &mut Gate<B>, schedule: &Schedule) -> usize
-    ensures refused { result ≡ refusals gate.old schedule.now.orders }
-    ensures after { gate.new ≡ obeyed_all gate.old schedule.now.orders }
+fn obey_all<B: Bank, D: Door>(gate: &mut Gate<B, D>, schedule: &Schedule) -> usize
+    ensures refused { result ≡ refusals D.table gate.old schedule.now.orders }
+    ensures after { gate.new ≡ obeyed_all D.table gate.old schedule.now.orders }
 {
     let mut refused = 0;
     for order in schedule.orders() {
@@ -70,10 +74,14 @@ fn ready(file: &[u8], room: usize) -> Result<Schedule<'_>, PlayFault>
 
 // Plays a file on gate 0 over a bank, puts the report at the start of the memory, and hands the bank back.
 // The guard shows that the service byte reads 1 while this works.
-#[tactic(auto, using(crate::proofs::Lent::obeyed_all_lent))]
-fn perform<B: Bank>(file: &[u8], bank: B, memory: &mut [u8], guard: &Service) -> Played<B>
+fn perform<B: Bank, D: Door>(
+    file: &[u8],
+    bank: B,
+    memory: &mut [u8],
+    guard: &Service,
+) -> Played<B, Gate<B, D>>
     requires { guard.now.byte.now ≡ 1 }
-    ensures { IsPlayed (B.memory bank) B.HIGHEST (B.values bank) file.now memory.old
+    ensures { IsPlayed D.table (B.memory bank) B.HIGHEST (B.values bank) file.now memory.old
         result.answer (B.memory result.bank) (B.values result.bank) memory.new }
 {
     let schedule = match ready(file, memory.len()) {
@@ -81,22 +89,30 @@ fn perform<B: Bank>(file: &[u8], bank: B, memory: &mut [u8], guard: &Service) ->
         Err(fault) => return Played {
             bank,
             answer: Err(fault),
+            kind: PhantomData,
         },
     };
     let heading = schedule.heading();
-    let mut gate = Gate::make(bank, 0, usize::from(heading.arms));
+    let mut gate = Gate::<B, D>::make(bank, 0, usize::from(heading.arms));
     let refused = obey_all(&mut gate, &schedule);
     let length = put_report(&gate, heading.orders, refused, memory);
     Played {
         bank: gate.into_bank(),
         answer: Ok(length),
+        kind: PhantomData,
     }
 }
 
 /// Plays a file on gate 0 over a bank, puts the report at the start of the memory, and hands the bank back.
 /// The file is gone through whole first: a fault leaves bank and memory as they were. The service byte reads 1 meanwhile.
-pub fn play<B: Bank>(file: &[u8], bank: B, memory: &mut [u8], service: &mut u8) -> Played<B>
-    ensures played { IsPlayed (B.memory bank) B.HIGHEST (B.values bank) file.now memory.old
+/// A host names the door, as `play::<_, ThreeBits>(..)`.
+pub fn play<B: Bank, D: Door>(
+    file: &[u8],
+    bank: B,
+    memory: &mut [u8],
+    service: &mut u8,
+) -> Played<B, Gate<B, D>>
+    ensures played { IsPlayed D.table (B.memory bank) B.HIGHEST (B.values bank) file.now memory.old
         result.answer (B.memory result.bank) (B.values result.bank) memory.new }
     ensures restored { service.new ≡ service.old }
 {

@@ -1,8 +1,22 @@
-use Rattle.std.proofs.Common.{◌+◌}
+use Rattle.std.proofs.Common.{◌+◌, ap, ◌∙◌}
 use Rattle.door.specs.declared.call.Call.TheVariants.{Admit, Leave}
-use Rattle.plantday.proofs.Called.{once, ◌then◌}
+use Rattle.door.specs.Calls.{knows}
+use Rattle.plantday.specs.Records.{with_move}
+use Rattle.plantday.proofs.Called.{once, joined}
+use Rattle.plantday.proofs.Noted.{known_is}
 use Rattle.plantday.proofs.deliver.Goals as goal
+use Rattle.plantday.proofs.deliver.Goals.{then-known, else-known}
 
 -- admitted and left
 pub returns-clause-calls : goal.returns-clause-calls
-returns-clause-calls g c = once (Admit (c.args.k + 1)) c.admit.ensures.after then once (Leave c.confirm-known.result.0.gate c.confirm-known.result.0.arm) c.leave.ensures.after
+returns-clause-calls g c =
+    let door = g.D.Door.table in
+    joined door (once door (Admit (c.args.k + 1)) c.admit.ensures.after) (once door (Leave c.confirm-known.result.0.gate c.confirm-known.result.0.arm) c.leave.ensures.after)
+
+-- and delivered: the pass just given is known
+pub returns-clause-noted : goal.returns-clause-noted
+returns-clause-noted g c =
+    elim c.if-known.branch [
+      | then-known w ↦ c.moved.ensures ∙ ap (with_move g.D.Door.table c.leave.new.self c.args.k) (w.record-is ∙ w.deliver.ensures)
+      | else-known w ↦ absurd (known_is c.admit.result c.unwrap-pass.result c.confirm-known.result.0 c.confirm-known.result.1 (λ pass. knows g.D.Door.table c.admit.new.self pass.gate pass.arm) c.admit.ensures.known c.unwrap-pass.ensures c.confirm-known.ensures.same c.confirm-known.ensures.answer w.if-known.false)
+    ]

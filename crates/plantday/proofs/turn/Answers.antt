@@ -4,7 +4,7 @@ use Rattle.plantday.proofs.Called.{once}
 use Rattle.plantday.proofs.turn.Goals as goal
 
 pub returns-then-roll-eq0 : goal.returns-then-roll-eq0
-returns-then-roll-eq0 g c = once (Begin (c.args.k + 1)) c.begin.ensures.after
+returns-then-roll-eq0 g c = once g.D.Door.table (Begin (c.args.k + 1)) c.begin.ensures.after
 
 pub returns-in-D : goal.returns-in-D
-returns-in-D g c = once (Step (c.args.k + 1)) c.step.ensures.after
+returns-in-D g c = once g.D.Door.table (Step (c.args.k + 1)) c.step.ensures.after

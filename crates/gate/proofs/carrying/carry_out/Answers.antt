@@ -4,21 +4,31 @@ use Rattle.door.specs.Calls.{run, after}
 use Rattle.door.specs.Law.{Fair}
 use Rattle.door.specs.States.{made}
 use Rattle.door.specs.declared.call.Call.TheVariants.{Begin}
-use Rattle.door.proofs.machine.Reached.{run_more, run_memory}
-use Rattle.door.proofs.Fairness.{fair}
+use Rattle.door.proofs.Origins.{run_more}
+use Rattle.door.proofs.Runs.{run_memory}
+use Rattle.door.proofs.Fairness.{fair, passing}
 use Rattle.gate.proofs.carrying.carry_out.Goals as goal
 
 pub loop-call-preserved : goal.loop-call-preserved
 loop-call-preserved g c =
+    let door = g.D.Door.table in
     let first = c.make-gate.result in
     let call = get_or c.args.calls.now c.loop-call.call-index (Begin 0) in
     c.carry.ensures
-    ∙ (ap (λ s. after s call) c.loop-call.invariant ∙ sym (run_more first c.args.calls.now c.loop-call.call-index (Begin 0) c.loop-call-test.true))
+    ∙ (ap (λ s. after door s call) c.loop-call.invariant ∙ sym (run_more door first c.args.calls.now c.loop-call.call-index (Begin 0) c.loop-call-test.true))
 
 pub returns : goal.returns
 returns g c =
     let bank = g.B.Bank in
-    let start = made (bank.memory c.args.bank) bank.HIGHEST c.args.number c.args.wanted (bank.values c.args.bank) in
-    let e : c.loop-call.gate ≡ run start c.args.calls.now =
-    c.loop-call.invariant ∙ (ap (run _) (take_all c.loop-call.call-index c.args.calls.now c.loop-call-test.false) ∙ ap (λ s. run s c.args.calls.now) c.make-gate.ensures) in
-    record { state = e; lent = ap (λ s. s.memory) e ∙ run_memory c.args.calls.now start; law = subst (Fair start c.args.calls.now) (sym e) (fair (bank.memory c.args.bank) bank.HIGHEST c.args.number c.args.wanted (bank.values c.args.bank) c.args.calls.now) }
+    let door = g.D.Door.table in
+    let met = g.met.D.Door in
+    let start = made door (bank.memory c.args.bank) bank.HIGHEST c.args.number c.args.wanted (bank.values c.args.bank) in
+    let e : c.loop-call.gate ≡ run door start c.args.calls.now =
+    c.loop-call.invariant ∙ (ap (run door _) (take_all c.loop-call.call-index c.args.calls.now c.loop-call-test.false) ∙ ap (λ s. run door s c.args.calls.now) c.make-gate.ensures) in
+    record {
+      state = e;
+      lent = ap (λ s. s.memory) e ∙ run_memory door c.args.calls.now start;
+      law = subst (Fair door start c.args.calls.now) (sym e) (fair door met.phased met.rules met.way (bank.memory c.args.bank) bank.HIGHEST c.args.number c.args.wanted (bank.values c.args.bank) c.args.calls.now);
+      rules = met.rules;
+      bound = passing door met.phased met.rules;
+    }

@@ -1,14 +1,18 @@
-use Rattle.std.proofs.Common.{◌<◌, length, ap, ◌∙◌, arith}
+use Rattle.std.proofs.Common.{◌<◌, ◌≤◌, length, ap, ◌∙◌, arith}
 use Rattle.bank.specs.Registers.{written}
 use Rattle.door.proofs.Rooms.{cleared_more}
 use Rattle.gate.proofs.making.clear.Goals as goal
 
 pub loop-i-preserved : goal.loop-i-preserved
 loop-i-preserved g c =
+    let door = g.D.Door.table in
+    let high = g.B.Bank.HIGHEST in
     let regs = g.B.Bank.values c.args.bank.now in
-    let h : c.loop-i.i < length (g.B.Bank.values c.args.bank.now) = omega arith in (
+    let h : c.loop-i.i < length (g.B.Bank.values c.args.bank.now) = omega arith in
+    let fits : door.first c.loop-i.i ≤ high = omega (arith, c.first.ensures.fits) in (
       c.write.ensures.after
-          ∙ ap (λ xs. written g.B.Bank.HIGHEST xs c.loop-i.i 0) c.loop-i.invariant.0
-          ∙ cleared_more g.B.Bank.HIGHEST c.loop-i.i regs h,
+          ∙ ap (λ v. written high (g.B.Bank.values c.loop-i.bank) c.loop-i.i v) c.first.ensures.is
+          ∙ ap (λ xs. written high xs c.loop-i.i (door.first c.loop-i.i)) c.loop-i.invariant.0
+          ∙ cleared_more door high c.loop-i.i regs h fits,
       c.write.ensures.lent ∙ c.loop-i.invariant.1,
     )

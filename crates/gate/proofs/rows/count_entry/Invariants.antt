@@ -6,7 +6,7 @@ use Rattle.gate.proofs.rows.count_entry.Given as goal
 
 -- the records below k are counted, the others as they were
 abbrev pub invariant-loop-k : goal.invariant-loop-k
-invariant-loop-k l =
+invariant-loop-k g l =
     (length l.arms ≡ arm_limit)
-    × ((j : ℕ) → j < l.k → get_or l.arms j no_arm ≡ counted l.b j (get_or l.initial.arms j no_arm))
-    × ((j : ℕ) → l.k ≤ j → get_or l.arms j no_arm ≡ get_or l.initial.arms j no_arm)
+    × ((j : ℕ) → j < l.k → get_or l.arms j (no_arm g.D.Door.table) ≡ counted g.D.Door.table l.b j (get_or l.initial.arms j (no_arm g.D.Door.table)))
+    × ((j : ℕ) → l.k ≤ j → get_or l.arms j (no_arm g.D.Door.table) ≡ get_or l.initial.arms j (no_arm g.D.Door.table))

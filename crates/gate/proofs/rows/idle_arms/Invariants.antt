@@ -6,5 +6,5 @@ use Rattle.gate.proofs.rows.idle_arms.Given as goal
 
 -- the places below k tell who is idle
 abbrev pub invariant-loop-k : goal.invariant-loop-k
-invariant-loop-k l =
-    (length l.notes ≡ arm_limit) × ((j : ℕ) → j < l.k → get_or l.notes j false ≡ is_idle (get_or l.arms j no_arm))
+invariant-loop-k g l =
+    (length l.notes ≡ arm_limit) × ((j : ℕ) → j < l.k → get_or l.notes j false ≡ is_idle g.D.Door.table (get_or l.arms j (no_arm g.D.Door.table)))

@@ -6,5 +6,5 @@ use Rattle.play.proofs.page.put_report.Given as goal
 
 abbrev pub invariant-loop-k : goal.invariant-loop-k
 invariant-loop-k g l =
-    (l.page.bytes ≡ l.initial.page.bytes ++ lines (arm_line l.gate) l.k)
+    (l.page.bytes ≡ l.initial.page.bytes ++ lines (arm_line g.D.Door.table l.gate) l.k)
     × (array_string_len l.page ≤ 128 + 60 * l.k)

@@ -7,5 +7,5 @@ use Rattle.play.proofs.player.obey_all.Given as goal
 abbrev pub invariant-loop-order : goal.invariant-loop-order
 invariant-loop-order g l =
     (l.refused + length l.order-iterator ≤ file_limit)
-    × (l.refused + refusals l.gate l.order-iterator ≡ refusals l.initial.gate l.schedule.orders)
-    × (obeyed_all l.gate l.order-iterator ≡ obeyed_all l.initial.gate l.schedule.orders)
+    × (l.refused + refusals g.D.Door.table l.gate l.order-iterator ≡ refusals g.D.Door.table l.initial.gate l.schedule.orders)
+    × (obeyed_all g.D.Door.table l.gate l.order-iterator ≡ obeyed_all g.D.Door.table l.initial.gate l.schedule.orders)

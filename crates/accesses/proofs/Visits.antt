@@ -1,0 +1,52 @@
+-- A pass that was just given is taken back, and one that is refused alters nothing.
+use Rattle.std.proofs.Common.{◌≡◌, ℕ, Ok, Err, None, Option, Result, IsTrue, IfOk, IsOk, sym, ap, ◌∙◌, subst, arith}
+use Rattle.door.specs.Calls.{refusal_of, after, unless, answered, knows}
+use Rattle.door.specs.States.{State}
+use Rattle.door.specs.Table.{Table}
+use Rattle.door.specs.declared.call.Call.TheVariants.{Admit, Leave}
+use Rattle.door.specs.declared.phase.Phase.{Phase}
+use Rattle.door.specs.declared.refusal.Refusal.{Refusal}
+use Rattle.gate.specs.Answers.{handed_back, admit_answer, leave_answer}
+use Rattle.gate.specs.declared.pass.HandedBack.{HandedBack}
+use Rattle.gate.specs.declared.pass.Pass.{Pass}
+use Rattle.accesses.specs.Runs.{visited}
+
+-- what is refused stays as it was
+refused_stays : {X Y : Type 0} (r : Option Refusal) (x : X) (e : Refusal) (new old : Y) → answered r x ≡ Err e → unless r new old ≡ old
+refused_stays r x e new old h = grind arith
+
+handed_stays : {Y : Type 0} (r : Option Refusal) (pass : Pass) (back : HandedBack) (new old : Y) → handed_back pass r ≡ Err back → (unless r new old ≡ old) × (back.pass ≡ pass)
+handed_stays r pass back new old h = (grind arith, grind arith)
+
+module _ {At : Type 0} (door : Table At) where
+  -- an arm whose pass is out is not admitted again
+  pub again : (s t : State At) (i : ℕ) (e : Refusal) → admit_answer door s i ≡ Err e → t ≡ after door s (Admit i) → t ≡ s
+  again s t i e h is = is ∙ refused_stays (refusal_of door s (Admit i)) _ e _ s h
+
+  -- a pass that the gate does not know
+  pub strange : (s t : State At) (pass : Pass) (back : HandedBack) → leave_answer door s pass ≡ Err back → t ≡ after door s (Leave pass.gate pass.arm) → (t ≡ s) × (back.pass ≡ pass)
+  strange s t pass back h is = let x = handed_stays (refusal_of door s (Leave pass.gate pass.arm)) pass back _ s h in (is ∙ x.0, x.1)
+
+  -- one that was just given
+  pub taken : (s t : State At) (given : Result Pass Refusal) (pass shown : Pass) (left : Result Phase HandedBack) → IfOk given (λ p. IsTrue (knows door s p.gate p.arm)) → given ≡ Ok pass
+      → t ≡ s → shown ≡ pass → left ≡ leave_answer door t shown → IsOk left
+  taken s t given pass shown left h ok stays same is =
+      let here : IsTrue (knows door s pass.gate pass.arm) = subst (λ r. IfOk r (λ p. IsTrue (knows door s p.gate p.arm))) ok h in
+      let known : knows door t shown.gate shown.arm ≡ knows door s pass.gate pass.arm = ap (λ x. knows door x shown.gate shown.arm) stays ∙ ap (λ p. knows door s p.gate p.arm) same in
+      grind arith
+
+  admitted : (s : State At) (i : ℕ) (pass : Pass) → refusal_of door s (Admit i) ≡ None → admit_answer door s i ≡ Ok pass → (pass.gate ≡ s.number) × (pass.arm ≡ i)
+  admitted s i pass none h = (grind arith, grind arith)
+
+  -- admitted and left
+  pub visit : (s t u : State At) (i : ℕ) (pass shown : Pass) → refusal_of door s (Admit i) ≡ None → admit_answer door s i ≡ Ok pass → shown ≡ pass → t ≡ after door s (Admit i)
+      → u ≡ after door t (Leave shown.gate shown.arm) → u ≡ visited door s i
+  visit s t u i pass shown none h same first last =
+      let is = admitted s i pass none h in
+      let inside = after door s (Admit i) in
+      last
+      ∙ ap (λ p. after door t (Leave p.gate p.arm)) same
+      ∙ ap (λ x. after door x (Leave pass.gate pass.arm)) first
+      ∙ ap (λ g. after door inside (Leave g pass.arm)) is.0
+      ∙ ap (λ k. after door inside (Leave s.number k)) is.1
+      ∙ sym (ap (λ r. unless r (after door inside (Leave s.number i)) s) none)

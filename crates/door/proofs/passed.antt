@@ -1,4 +1,0 @@
-pub mod Rules
-pub mod Meaning
-pub mod Past
-pub mod Rows

@@ -1,5 +1,0 @@
-pub mod Potential
-pub mod Falls
-pub mod Waiting
-pub mod Critical
-pub mod Rounds

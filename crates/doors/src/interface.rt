@@ -1,0 +1,78 @@
+ghost use Rattle.std.specs.Prelude.{◌≡◌, ◌≤◌};
+ghost use Rattle.door.specs.Accesses.{ShowsAccesses};
+ghost use Rattle.door.specs.Law.{ShowsWay};
+ghost use Rattle.door.specs.Rules.{Phased, ShowsBits, ShowsRules};
+ghost use Rattle.door.specs.Table.{Table};
+
+use door::Phase;
+use door::access::Access;
+
+/// A door, by the positions that an arm has in it: a gate keeps one in the record of each arm.
+///
+/// Whoever writes a door gives its table, the code of the table, and shows the laws at the end.
+/// How often an arm is passed follows from the rules; right of way and going inside a door shows by an argument of its own.
+pub trait Door: Copy {
+    // What the door does at each position.
+    ghost table: { Table Self };
+
+    /// Where an arm rests.
+    fn idle() -> Self
+        ensures { result ≡ table.idle };
+
+    /// Where a begun visit starts.
+    fn entry() -> Self
+        ensures { result ≡ table.entry };
+
+    /// Where an arm that leaves goes.
+    fn exit() -> Self
+        ensures { result ≡ table.exit };
+
+    /// The phase that a position belongs to.
+    fn phase(self) -> Phase
+        ensures { result ≡ table.phase self };
+
+    /// Whether the access here is the doorway's read of the bit.
+    fn reads_bit(self) -> bool
+        ensures { result ≡ table.reads_bit self };
+
+    /// The arm that a waiting arm looks at, from 1; else 0.
+    fn index(self) -> usize
+        ensures { result ≡ table.index self };
+
+    /// The one access that arm i, from 1, makes here with its side; 0 stands for a side that is missing.
+    fn access(self, i: u8, side: u64) -> Access
+        ensures { result ≡ table.access i side self };
+
+    /// Where an arm of n with this side goes, having read the value. The position is rewritten in place.
+    fn advance(&mut self, n: u8, side: u64, value: u64)
+        ensures { self.new ≡ table.next n side value self.old };
+
+    /// The least highest value that a bank must have.
+    fn needed() -> u64
+        ensures { result ≡ table.needed };
+
+    /// How many registers n arms take: one at least.
+    fn room(n: u8) -> usize
+        ensures is { result ≡ table.room n }
+        ensures some { 1 ≤ result };
+
+    /// What making writes to register i: no more than every bank of a gate with arms takes.
+    fn first(i: usize) -> u64
+        ensures is { result ≡ table.first i }
+        ensures fits { result ≤ table.needed };
+
+    // An arm rests in I, a begun visit starts in D, and an arm that leaves goes to X.
+    ghost phased: { Phased table };
+
+    // The bit and the sides are 0 or 1.
+    ghost bits: { ShowsBits table };
+
+    // Each call keeps the rules.
+    ghost rules: { ShowsRules table };
+
+    // Two waiting arms are alike in right of way exactly if they read the same bit; each goes inside; and way tells right of way.
+    ghost way: { ShowsWay table };
+
+    // Each accepted step accesses one of the registers that the arms take, with a value that the bank takes.
+    ghost accesses: { ShowsAccesses table };
+}

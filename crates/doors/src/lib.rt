@@ -1,0 +1,13 @@
+//! The interface of a door, and the two doors behind it.
+#![tactic(auto)]
+
+// What a door promises.
+mod interface;
+// Three registers of one bit for each arm.
+mod three_bit_door;
+// One register of four values for each arm.
+mod four_valued_door;
+
+pub use four_valued::FourValued;
+pub use interface::Door;
+pub use three_bits::ThreeBits;

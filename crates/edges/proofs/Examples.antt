@@ -1,0 +1,69 @@
+-- Two histories of the three-bit door, worked out.
+use Rattle.std.proofs.Common.{◌≡◌, ℕ, true, false, List, [], ◌∷◌, ◌++◌, get_or, replicate, refl}
+use Rattle.door.specs.Making.{largest}
+use Rattle.door.specs.States.{State, made, arm_at, phase_at}
+use Rattle.door.specs.Calls.{run, has_way}
+use Rattle.door.specs.History.{bit_read, entries_since, idle_then}
+use Rattle.door.specs.declared.call.Call.{Call}
+use Rattle.door.specs.declared.call.Call.TheVariants.{Begin as begin, Step as step, Admit as admit, Leave as leave}
+use Rattle.door.specs.declared.phase.Phase.TheVariants as P
+use Rattle.three_bits.specs.Positions.{three_bits}
+use Rattle.three_bits.specs.declared.position.ThreeBits.{ThreeBits}
+
+abbrev steps_of : ℕ → ℕ → List Call
+steps_of i k = replicate k (step i)
+
+-- arm 1 goes inside past arm 2, leaves, and is idle again
+abbrev first : State ThreeBits
+first = made three_bits 0 1 0 2 (replicate 9 1)
+
+abbrev one_past : List Call
+one_past = begin 1 ∷ [] ++ steps_of 1 5 ++ (begin 2 ∷ []) ++ steps_of 2 5 ++ steps_of 1 6 ++ (admit 1 ∷ leave 0 1 ∷ []) ++ steps_of 1 3
+
+turned : get_or (run three_bits first one_past).regs 0 0 ≡ 1
+unfolding largest
+turned = refl
+
+still_waits : phase_at three_bits (run three_bits first one_past) 2 ≡ P.W
+unfolding largest
+still_waits = refl
+
+bit_of_second : bit_read three_bits 2 first one_past ≡ 0
+unfolding largest
+bit_of_second = refl
+
+past_second : entries_since three_bits 2 1 first one_past ≡ 1
+unfolding largest
+past_second = refl
+
+way_of_second : has_way three_bits (run three_bits first one_past) 2 ≡ true
+unfolding largest
+way_of_second = refl
+
+-- arm 2 goes inside twice past arm 1
+abbrev second : State ThreeBits
+second = made three_bits 0 255 7 3 (replicate 10 9)
+
+abbrev two_past : List Call
+two_past = begin 2 ∷ begin 3 ∷ [] ++ steps_of 2 5 ++ steps_of 3 5 ++ steps_of 3 9 ++ (admit 3 ∷ leave 7 3 ∷ []) ++ steps_of 3 2 ++ (begin 1 ∷ []) ++ steps_of 1 5 ++ steps_of 2 1
+    ++ (admit 2 ∷ leave 7 2 ∷ []) ++ steps_of 2 2 ++ (begin 2 ∷ []) ++ steps_of 2 5 ++ steps_of 2 15
+
+bit_of_first : bit_read three_bits 1 second two_past ≡ 1
+unfolding largest
+bit_of_first = refl
+
+past_first : entries_since three_bits 1 2 second two_past ≡ 2
+unfolding largest
+past_first = refl
+
+row_of_first : get_or (arm_at three_bits (run three_bits second two_past) 1).row 1 0 ≡ 2
+unfolding largest
+row_of_first = refl
+
+busy_then : idle_then three_bits 1 2 second two_past ≡ false
+unfolding largest
+busy_then = refl
+
+idle_third : idle_then three_bits 1 3 second two_past ≡ true
+unfolding largest
+idle_third = refl

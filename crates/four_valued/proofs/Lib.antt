@@ -1,0 +1,2 @@
+pub mod Plan
+pub mod Shown

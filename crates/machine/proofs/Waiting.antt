@@ -1,0 +1,84 @@
+-- An arm that waits: what a move makes of it, and when it goes inside.
+use Rattle.std.proofs.Common.{◌≡◌, ℕ, zero, suc, ◌≤◌, Bool, false, not, T, ◌≢◌, ◌⊎◌, sym, refl, ap, ◌∙◌, subst, inl, inr, ⊎_elim, arith}
+use Rattle.std.proofs.lemmas.Bool.{cases_eq}
+use Rattle.door.specs.declared.phase.Phase.TheVariants as P
+use Rattle.door.proofs.Bools.{same_refl, test}
+use Rattle.machine.specs.Kinds.{Kind, Place}
+use Rattle.machine.proofs.Machine.{Stance, waits, inside, at, has, step_waiting, outcome, step_arm, Move, step, is_step, allowed, changed_same, changed_other, Machine, moved}
+use Rattle.machine.proofs.Invariant.{Free, Own, Inv, wait_own}
+
+abbrev pub Waiting : Bool → Stance → Type 0
+Waiting s a = (j : ℕ) × (p : Place) × (a ≡ waits s j p)
+
+pub wait_out : (δ : Kind) (n : ℕ) (β : Bool) (b : Stance) (s : Bool) (j : ℕ) (p : Place) → Waiting s (step_waiting δ n β b s j p) ⊎ (step_waiting δ n β b s j p ≡ inside s false)
+wait_out δ n β b s = outcome (λ r. Waiting s r ⊎ (r ≡ inside s false)) δ n β b s (λ j p. inl (j, p, refl)) (inr refl)
+
+-- it may only step
+pub only_steps : (m : Move) (s : Bool) (j : ℕ) (p : Place) → T (allowed m (waits s j p)) → m ≡ step
+only_steps m s j p h = grind arith
+
+-- what its phase says
+pub phase_waits : (a : Stance) → T (at P.W a) → (s : Bool) × Waiting s a
+phase_waits (waits s j p) h = (s, (j, p, refl))
+phase_waits a h = absurd h
+
+pub not_both : (a : Stance) (s : Bool) → T (has s a) → T (has (not s) a) → ⊥
+not_both a s h k = grind arith
+
+pub D_awake : (a : Stance) → T (at P.D a) → T (not (at P.I a))
+D_awake a h = grind arith
+
+pub has_awake : (a : Stance) (t : Bool) → T (has t a) → T (not (at P.I a))
+has_awake a t h = grind arith
+
+-- an arm in its doorway may only step
+pub doorway_steps : (m : Move) (a : Stance) → T (at P.D a) → T (allowed m a) → m ≡ step
+doorway_steps m a h k = grind arith
+
+-- a search through the arms
+pub find : (f : ℕ → Bool) (n : ℕ) → ((k : ℕ) × (1 ≤ k) × (k ≤ n) × T (f k)) ⊎ ((k : ℕ) → 1 ≤ k → k ≤ n → T (not (f k)))
+find f zero = inr (λ k lo hi. absurd (omega arith))
+find f (suc n) = ⊎_elim
+    (λ x. inl (suc n, omega arith, omega arith, x))
+    (λ x. ⊎_elim (λ y. inl (y.0, y.1, (let z = y.2 in omega arith), y.3)) (λ y. inr (λ k lo hi. let z = y k in let c = cases_eq k (suc n) in grind arith)) (find f n))
+    (test (f (suc n)))
+
+-- a move by which w goes inside
+abbrev pub Entry : Move → ℕ → ℕ → Machine → Type 0
+Entry m i w g' = (i ≡ w) × T (is_step m) × T (at P.F (g'.arms w))
+
+module _ (g : Machine) (inv : Inv g) (w : ℕ) (s : Bool) (j : ℕ) (p : Place) (e : g.arms w ≡ waits s j p) where
+  pub has_own : T (has s (g.arms w))
+  has_own = subst (λ y. T (has s y)) (sym e) (same_refl s)
+
+  own_here : Own g.n g.group g.arms (waits s j p)
+  own_here = subst (Own g.n g.group g.arms) e (inv.own w)
+
+  pub index_in : (1 ≤ j) × (j ≤ g.n)
+  index_in = (own_here.0, own_here.1)
+
+  -- another arm moves
+  pub other_waits : (m : Move) (i : ℕ) → i ≢ w → Waiting s ((moved g m i).arms w)
+  other_waits m i ne = (j, p, changed_other g.arms i _ w (λ q. ne (sym q)) ∙ e)
+
+  own_result : (moved g step w).arms w ≡ step_waiting g.kind g.n g.group (g.arms j) s j p
+  own_result = changed_same g.arms w _ ∙ ap (step_arm g.kind g.n g.group g.arms) e
+
+  -- it steps itself
+  pub own_out : Waiting s ((moved g step w).arms w) ⊎ ((moved g step w).arms w ≡ inside s false)
+  own_out = subst (λ y. Waiting s y ⊎ (y ≡ inside s false)) (sym own_result) (wait_out g.kind g.n g.group (g.arms j) s j p)
+
+  -- the entry rule: it goes inside only while the group differs from its side or no arm has the other side
+  pub own_free : (moved g step w).arms w ≡ inside s false → Free g.group g.arms s
+  own_free q = subst (Own g.n g.group g.arms) (sym own_result ∙ q) (wait_own g.n g.group g.arms inv.range g.kind s j p own_here)
+
+  -- any allowed move: w goes inside and was free to, or waits on
+  pub move_out : (m : Move) (i : ℕ) → T (allowed m (g.arms i)) → (Entry m i w (moved g m i) × Free g.group g.arms s) ⊎ Waiting s ((moved g m i).arms w)
+  move_out m i k = ⊎_elim (λ z. mine m i z k) (λ ne. inr (other_waits m i ne)) (cases_eq i w)
+    where
+      mine : (m : Move) (i : ℕ) → i ≡ w → T (allowed m (g.arms i)) → (Entry m i w (moved g m i) × Free g.group g.arms s) ⊎ Waiting s ((moved g m i).arms w)
+      mine m i z k =
+          let k' : T (allowed m (waits s j p)) = subst (λ y. T (allowed m y)) e (subst (λ y. T (allowed m (g.arms y))) z k) in
+          subst (λ m'. (Entry m' i w (moved g m' i) × Free g.group g.arms s) ⊎ Waiting s ((moved g m' i).arms w)) (sym (only_steps m s j p k'))
+          (subst (λ i'. (Entry step i' w (moved g step i') × Free g.group g.arms s) ⊎ Waiting s ((moved g step i').arms w)) (sym z)
+          (⊎_elim (λ a. inr a) (λ a. inl ((refl, tt, subst (λ y. T (at P.F y)) (sym a) tt), own_free a)) own_out))

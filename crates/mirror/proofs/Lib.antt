@@ -1,0 +1,12 @@
+pub mod Plans
+pub mod Deeds
+pub mod Mirror
+pub mod Reached
+pub mod Meant
+pub mod Accesses
+pub mod Rounds
+pub mod Blocked
+pub mod HasWay
+pub mod WayTold
+pub mod BitRead
+pub mod Shown

@@ -1,0 +1,111 @@
+-- A door's plan: where each stance of the machine stands in the door's table, and what its registers hold.
+use Rattle.std.proofs.Common.{◌≡◌, arith, not, ◌-◌, ℕ, ◌≤◌, ◌<◌, Bool, true, false, cond, T, eqb, Some, None, Option}
+use Rattle.door.specs.Registers.{group}
+use Rattle.door.specs.Arms.{side_of}
+use Rattle.door.specs.Table.{Table}
+use Rattle.door.specs.declared.access.Access.{Access}
+use Rattle.door.specs.declared.access.Access.TheVariants as A
+use Rattle.door.specs.declared.phase.Phase.TheVariants as P
+use Rattle.door.proofs.Bools.{same}
+use Rattle.machine.specs.Kinds.{Kind, Place}
+use Rattle.machine.proofs.Machine.{Stance, idle, d1, d2, waits, inside, x1, x2, at, phase, side, step_arm, turn_step, may_step}
+
+abbrev pub bit : Bool → ℕ
+bit true = 1
+bit false = 0
+
+abbrev pub as_bit : Option Bool → Option ℕ
+as_bit (Some s) = Some (bit s)
+as_bit None = None
+
+-- the side in a record, as a number
+abbrev pub number_of : Stance → ℕ
+number_of a = side_of (as_bit (side a))
+
+-- what an access does, told of the arms: nothing; it reads the bit; it reads cell c of arm j; it writes its own cell c; it writes the bit
+pub data Deed : Type 0 where
+  rest ask : Deed
+  look tell : ℕ → ℕ → Deed
+  turn : ℕ → Deed
+
+abbrev pub is_ask : Deed → Bool
+is_ask ask = true
+is_ask d = false
+
+-- in which stances the bit is read, and past the first exit step
+abbrev pub is_d2 : Stance → Bool
+is_d2 (d2 x) = true
+is_d2 a = false
+
+abbrev pub is_x2 : Stance → Bool
+is_x2 (x2 u) = true
+is_x2 a = false
+
+-- the bit, and cell c of the arm itself, after a deed
+abbrev pub turned_by : Deed → ℕ → ℕ
+turned_by (turn v) old = v
+turned_by d old = old
+
+abbrev pub told_by : ℕ → Deed → ℕ → ℕ
+told_by c (tell e v) old = cond (eqb c e) v old
+told_by c d old = old
+
+-- the access of arm i by its deed, and the value that it reads, by the register of each cell and by what it holds
+abbrev pub access_for : (ℕ → ℕ → ℕ) → Deed → ℕ → Access
+access_for cell rest i = A.Nothing
+access_for cell ask i = A.Read group
+access_for cell (look c j) i = A.Read (cell c j)
+access_for cell (tell c v) i = A.Write (cell c i) v
+access_for cell (turn v) i = A.Write group v
+
+abbrev pub seen : (ℕ → Stance → ℕ) → Bool → (ℕ → Stance) → Deed → ℕ
+seen holds β arms ask = bit β
+seen holds β arms (look c j) = holds c (arms j)
+seen holds β arms d = 0
+
+pub record Plan {At : Type 0} (door : Table At) : Type 0 where
+  -- the kind of the machine; where a stance stands; how many cells an arm has, the register of cell c of arm i, and what it holds; what an arm does
+  pub kind : Kind
+  pub place : Stance → At
+  pub cells : ℕ
+  pub cell : ℕ → ℕ → ℕ
+  pub holds : ℕ → Stance → ℕ
+  pub deed : Stance → Deed
+  -- the table: phases, the places that the calls name, the doorway's read, the first exit step
+  pub phased : (a : Stance) → door.phase (place a) ≡ phase a
+  pub at_rest : (x : Bool) → place (idle x) ≡ door.idle
+  pub at_entry : (x : Bool) → place (d1 x) ≡ door.entry
+  pub at_exit : (u : Bool) → place (x1 u) ≡ door.exit
+  pub at_pass : (u : Bool) → place (inside u true) ≡ place (inside u false)
+  pub reads : (a : Stance) → door.reads_bit (place a) ≡ is_d2 a
+  pub turned : (a : Stance) → door.turned (place a) ≡ is_x2 a
+  -- the table: an arm's access is its deed, and leads where the machine goes
+  pub accesses : (i : ℕ) (a : Stance) → door.access i (number_of a) (place a) ≡ access_for cell (deed a) i
+  pub leads : (n : ℕ) (β : Bool) (arms : ℕ → Stance) (a : Stance) → T (may_step a) →
+      door.next n (number_of a) (seen holds β arms (deed a)) (place a) ≡ place (step_arm kind n β arms a)
+  -- what deeds there are
+  pub rests : (a : Stance) → deed a ≡ rest → ¬ (T (may_step a))
+  pub asks : (a : Stance) → T (at P.D a) → is_ask (deed a) ≡ is_d2 a
+  pub looks : (a : Stance) (c j : ℕ) → deed a ≡ look c j → (c < cells) × ((u : Bool) × (p : Place) × (a ≡ waits u j p))
+  pub tells : (a : Stance) (c v : ℕ) → deed a ≡ tell c v → (c < cells) × (v ≤ door.needed)
+  pub turns : (a : Stance) (v : ℕ) → deed a ≡ turn v → v ≤ door.needed
+  -- they keep the cells and the bit in step with the machine
+  pub told : (n : ℕ) (β : Bool) (arms : ℕ → Stance) (a : Stance) (c : ℕ) → c < cells → T (may_step a) → holds c (step_arm kind n β arms a) ≡ told_by c (deed a) (holds c a)
+  pub bits : (β : Bool) (a : Stance) → T (may_step a) → bit (turn_step β a) ≡ turned_by (deed a) (bit β)
+  pub same_begun : (c : ℕ) (x : Bool) → holds c (d1 x) ≡ holds c (idle x)
+  pub same_pass : (c : ℕ) (u : Bool) → holds c (inside u true) ≡ holds c (inside u false)
+  pub same_left : (c : ℕ) (u : Bool) → holds c (x1 u) ≡ holds c (inside u true)
+  -- the registers: apart from one another and from the bit, within the room, and as making writes them
+  pub apart : (c e k i : ℕ) → c < cells → e < cells → 1 ≤ k → 1 ≤ i → cell c k ≡ cell e i → (c ≡ e) × (k ≡ i)
+  pub past_bit : (c k : ℕ) → c < cells → 1 ≤ k → 1 ≤ cell c k
+  pub within : (n c k : ℕ) → c < cells → 1 ≤ k → k ≤ n → cell c k < door.room n
+  pub some_room : (n : ℕ) → 1 ≤ door.room n
+  pub first_bit : door.first group ≡ 0
+  pub first_cells : (c k : ℕ) → c < cells → 1 ≤ k → door.first (cell c k) ≡ holds c (idle false)
+
+-- tests on bits
+pub bit_same : (x y : Bool) → eqb (bit x) (bit y) ≡ same x y
+bit_same b c = grind arith
+
+pub bit_not : (x : Bool) → 1 - bit x ≡ bit (not x)
+bit_not x = grind arith

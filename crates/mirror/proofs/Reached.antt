@@ -1,0 +1,160 @@
+-- Every call is a move of the machine or nothing that it sees; so every history of a gate mirrors a run of the machine.
+use Rattle.std.proofs.Common.{◌≡◌, ℕ, ◌-◌, ◌<◌, ◌≤◌, Bool, false, not, ◌&&◌, T, eqb, List, [], ◌∷◌, length, get_or, map, drop, None, sym, refl, ap, ◌∙◌, subst, arith}
+use Rattle.std.proofs.lemmas.Bool.Decides.{nat_tests}
+use Rattle.std.proofs.lemmas.Bool.{cond-false, ne_eqb}
+use Rattle.std.proofs.lemmas.List.{get_or-replicate, get_or_append_left, length-replicate}
+use Rattle.std.proofs.lemmas.List.FromFn.{get_or-map-range_with_len, length-map-range_with_len}
+use Rattle.std.specs.List.{range_with_len}
+use Rattle.door.specs.Limits.{arm_limit}
+use Rattle.door.specs.Registers.{group}
+use Rattle.door.specs.Phases.{same_phase}
+use Rattle.door.specs.Table.{Table}
+use Rattle.door.specs.Arms.{fresh, no_arm}
+use Rattle.door.specs.States.{State, made, is_arm, arm_at, phase_at}
+use Rattle.door.specs.Making.{arms_for, cleared, made_regs}
+use Rattle.door.specs.Calls.{begin_refusal, step_refusal, admit_refusal, knows, refusal_of, arm_after, stepped, done, after, run}
+use Rattle.door.specs.History.{moves, steps, step_of, move_of, is_in, goes_inside}
+use Rattle.door.specs.Meaning.{arm_of}
+use Rattle.door.specs.declared.call.Call.{Call}
+use Rattle.door.specs.declared.call.Call.TheVariants.{Begin, Step, Admit, Confirm, Leave, Look, Tally, Way}
+use Rattle.door.specs.declared.phase.Phase.{Phase}
+use Rattle.door.specs.declared.phase.Phase.TheVariants as P
+use Rattle.door.proofs.Bools.{and_T}
+use Rattle.door.proofs.Accepted.{for_arm_none, begin_none, step_none, admit_none, leave_none, arm_in, known_arm, by_answer}
+use Rattle.door.proofs.Rooms.{arms_few, arms_fit, length_cleared}
+use Rattle.machine.specs.Kinds.{Kind}
+use Rattle.machine.proofs.Machine.{idle, at, out, Move, begin, step, admit, leave, is_step, is_begin, allowed, may_step, Machine, moved}
+use Rattle.machine.proofs.Invariant.{Inv, inv_moved}
+use Rattle.machine.proofs.Waiting.{Waiting, Entry}
+use Rattle.mirror.proofs.Plans.{Plan}
+use Rattle.mirror.proofs.Mirror.{register, Mirror, phase_is, tallied_mirror, step_mirror, begin_mirror, admit_mirror, leave_mirror}
+
+-- what a call of arm o comes to, t being the state after it, and mv and st telling whose accepted move and whose accepted step it is
+pub data Came {At : Type 0} {door : Table At} (plan : Plan door) (g : Machine) (t : State At) (o : ℕ) (mv st : ℕ → Bool) : Type 0 where
+  stays : Mirror plan t g → ((b : ℕ) → mv b ≡ false) → ((b : ℕ) → st b ≡ false) → Came plan g t o mv st
+  goes : (m : Move) (i : ℕ) → 1 ≤ i → i ≤ g.n → T (allowed m (g.arms i)) → Mirror plan t (moved g m i)
+      → ((b : ℕ) → mv b ≡ (not (is_begin m) && eqb i b)) → ((b : ℕ) → st b ≡ (is_step m && eqb i b)) → i ≡ o → Came plan g t o mv st
+
+abbrev pub Called : {At : Type 0} {door : Table At} → Plan door → Machine → State At → Call → Type 0
+Called {door = door} plan g s c = Came plan g (after door s c) (arm_of c) (λ b. moves door b s c) (λ b. steps door b s c)
+
+-- a state that mirrors a machine of n arms with its invariant
+pub record Sound {At : Type 0} {door : Table At} (plan : Plan door) (s : State At) (n : ℕ) : Type 0 where
+  pub machine : Machine
+  pub mirror : Mirror plan s machine
+  pub keeps : Inv machine
+  pub arms_are : machine.n ≡ n
+
+module _ {At : Type 0} {door : Table At} {plan : Plan door} where
+  module _ (s : State At) (g : Machine) (mir : Mirror plan s g) (inv : Inv g) where
+    by_refusal : (c : Call) → (refusal_of door s c ≡ None → Came plan g (done door s c) (arm_of c) (λ b. move_of b c) (λ b. step_of b c)) → Called plan g s c
+    by_refusal c f = by_answer (refusal_of door s c) (done door s c) s (λ t y. Came plan g t (arm_of c) (λ b. y && move_of b c) (λ b. y && step_of b c)) f (stays mir (λ b. refl) (λ b. refl))
+
+    step_came : (i : ℕ) → refusal_of door s (Step i) ≡ None → Came plan g (stepped door i s) i (λ b. eqb i b) (λ b. eqb i b)
+    step_came i e =
+        let r = known_arm s i (step_refusal (phase_at door s i)) e in
+        let k : T (may_step (g.arms i)) = subst (λ p. T (not (same_phase p P.I) && not (same_phase p P.F))) (phase_is s g mir i r.0 r.1) (step_none (phase_at door s i) (for_arm_none (is_arm s i) _ e)) in
+        goes step i r.0 (let z = mir.size in let y = r.1 in omega arith) k
+        (tallied_mirror s _ (i - 1) (phase_at door s i) (door.phase (arm_after door s i).position) _ (moved g step i) (step_mirror s g mir i r.0 r.1 (inv.own i) k)) (λ b. refl) (λ b. refl) refl
+
+    pub came : (c : Call) → Called plan g s c
+    came (Begin i) = by_refusal (Begin i) (λ e.
+        let r = known_arm s i (begin_refusal (phase_at door s i) (arm_at door s i).visits) e in
+        let k : T (at P.I (g.arms i)) = subst (λ p. T (same_phase p P.I)) (phase_is s g mir i r.0 r.1) (begin_none (phase_at door s i) _ (for_arm_none (is_arm s i) _ e)).0 in
+        goes begin i r.0 (let z = mir.size in let y = r.1 in omega arith) k (begin_mirror s g mir i r.0 r.1 _ k) (λ b. refl) (λ b. refl) refl)
+    came (Step i) = by_refusal (Step i) (step_came i)
+    came (Admit i) = by_refusal (Admit i) (λ e.
+        let r = known_arm s i (admit_refusal (phase_at door s i) (arm_at door s i).out) e in
+        let k₀ = admit_none (phase_at door s i) (arm_at door s i).out (for_arm_none (is_arm s i) _ e) in
+        let k : T (at P.F (g.arms i) && not (out (g.arms i))) = subst (λ o. T (at P.F (g.arms i) && not o)) (mir.shows i r.0 r.1).marked (subst (λ p. T (same_phase p P.F && not (arm_at door s i).out)) (phase_is s g mir i r.0 r.1) k₀) in
+        goes admit i r.0 (let z = mir.size in let y = r.1 in omega arith) k
+        (admit_mirror s g mir i r.0 r.1 (and_T (at P.F (g.arms i)) (not (out (g.arms i))) k).0) (λ b. refl) (λ b. refl) refl)
+    came (Leave z i) = by_refusal (Leave z i) (λ e.
+        let x = and_T (is_arm s i) (arm_at door s i).out (and_T (eqb z s.number) _ (leave_none (knows door s z i) e)).1 in
+        let r = arm_in s i x.0 in
+        let k : T (out (g.arms i)) = subst T (mir.shows i r.0 r.1).marked x.1 in
+        goes leave i r.0 (let z = mir.size in let y = r.1 in omega arith) k (leave_mirror s g mir i r.0 r.1 k) (λ b. refl) (λ b. refl) refl)
+    came (Confirm z i) = by_refusal (Confirm z i) (λ e. stays mir (λ b. refl) (λ b. refl))
+    came (Look i) = by_refusal (Look i) (λ e. stays mir (λ b. refl) (λ b. refl))
+    came (Tally i k) = by_refusal (Tally i k) (λ e. stays mir (λ b. refl) (λ b. refl))
+    came (Way i) = by_refusal (Way i) (λ e. stays mir (λ b. refl) (λ b. refl))
+
+  -- an arm's phase, in the state and in the machine
+  pub phase_shown : (s : State At) (g : Machine) → Mirror plan s g → (p : Phase) (i : ℕ) → 1 ≤ i → i ≤ g.n → is_in door p s i ≡ at p (g.arms i)
+  phase_shown s g mir p i lo hi = ap (λ z. same_phase z p) (phase_is s g mir i lo (let z = mir.size in omega arith))
+
+  -- a move by which w goes inside is a call by which it does
+  pub entry_goes : (w : ℕ) (sd : Bool) (s : State At) (g : Machine) → 1 ≤ w → w ≤ g.n → Mirror plan s g → Waiting sd (g.arms w) → (c : Call) (m : Move) (i : ℕ)
+      → Mirror plan (after door s c) (moved g m i) → ((b : ℕ) → steps door b s c ≡ (is_step m && eqb i b)) → Entry m i w (moved g m i) → T (goes_inside door w s c)
+  entry_goes w sd s g lo hi mir wait c m i mir' st (q, k, ins) =
+      let before = phase_shown s g mir P.W w lo hi in
+      let afterwards = phase_shown (after door s c) (moved g m i) mir' P.F w lo hi in
+      let step_is = st w in
+      let waiting = wait.2 in
+      grind (arith, nat_tests)
+
+  abbrev pub same_sound : (s t : State At) (n : ℕ) (h : Sound plan s n) → Mirror plan t h.machine → Sound plan t n
+  same_sound s t n h mir = record { machine = h.machine; mirror = mir; keeps = h.keeps; arms_are = h.arms_are }
+
+  abbrev pub moved_sound : (s t : State At) (n : ℕ) (h : Sound plan s n) (m : Move) (i : ℕ) → 1 ≤ i → i ≤ h.machine.n → Mirror plan t (moved h.machine m i) → Sound plan t n
+  moved_sound s t n h m i lo hi mir = record { machine = moved h.machine m i; mirror = mir; keeps = inv_moved h.machine h.keeps m i lo hi; arms_are = h.arms_are }
+
+  pub after_sound : (s : State At) (n : ℕ) → Sound plan s n → (c : Call) → Sound plan (after door s c) n
+  after_sound s n h c = go (came s h.machine h.mirror h.keeps c)
+    where
+      go : Called plan h.machine s c → Sound plan (after door s c) n
+      go (stays mir _ _) = same_sound s (after door s c) n h mir
+      go (goes m i lo hi k mir _ _ _) = moved_sound s (after door s c) n h m i lo hi mir
+
+  pub run_sound : (s : State At) (n : ℕ) → Sound plan s n → (cs : List Call) → Sound plan (run door s cs) n
+  run_sound s n h [] = h
+  run_sound s n h (c ∷ cs) = run_sound (after door s c) n (after_sound s n h c) cs
+
+-- the machine that a gate just made mirrors
+abbrev pub first : Kind → ℕ → Machine
+first δ n = record { kind = δ; n = n; group = false; arms = λ k. idle false }
+
+pub first_inv : (δ : Kind) (n : ℕ) → Inv (first δ n)
+first_inv δ n = record { home = λ k. tt; awake = λ k h. absurd h; range = λ k t h. absurd h; own = λ k. tt }
+
+module _ {At : Type 0} {door : Table At} (plan : Plan door) (memory high number wanted : ℕ) (regs : List ℕ) where
+  abbrev start : State At
+  start = made door memory high number wanted regs
+
+  abbrev n : ℕ
+  n = arms_for door high (length regs) wanted
+
+  made_values : 1 ≤ n → made_regs door n regs ≡ cleared door (door.room n) regs
+  made_values some = cond-false (eqb n 0) regs (cleared door (door.room n) regs) (ne_eqb n 0 (omega arith))
+
+  first_is : 1 ≤ n → (q : ℕ) → q < door.room n → register start q ≡ door.first q
+  first_is some q h =
+      ap (λ rs. get_or rs q 0) (made_values some)
+      ∙ (get_or_append_left (map door.first (range_with_len 0 (door.room n))) (drop (door.room n) regs) 0 q (let x = length-map-range_with_len door.first 0 (door.room n) in omega arith)
+      ∙ get_or-map-range_with_len door.first 0 (door.room n) q q 0 h (omega arith))
+
+  fresh_at : (i : ℕ) → 1 ≤ i → i ≤ n → arm_at door start i ≡ fresh door
+  fresh_at i lo hi = get_or-replicate arm_limit (i - 1) (fresh door) (no_arm door) (let z = arms_few door high (length regs) wanted in omega arith)
+
+  pub start_mirror : 1 ≤ n → Mirror plan start (first plan.kind n)
+  start_mirror some =
+      let fit = arms_fit door high (length regs) wanted some in
+      record {
+        kind = refl;
+        size = refl;
+        bits = fit.1;
+        fits = let x = ap length (made_values some) in let y = length_cleared door (door.room n) regs fit.0 in let z = fit.0 in omega arith;
+        table = let x = length-replicate arm_limit (fresh door) in let z = arms_few door high (length regs) wanted in omega arith;
+        group_is = first_is some group (plan.some_room n) ∙ plan.first_bit;
+        shows = λ i lo hi.
+            let e = fresh_at i lo hi in
+            record {
+              stands = ap (λ a. a.position) e ∙ sym (plan.at_rest false);
+              sided = ap (λ a. a.side) e;
+              marked = ap (λ a. a.out) e;
+              told = λ c low. first_is some (plan.cell c i) (plan.within n c i low lo hi) ∙ plan.first_cells c i low lo;
+            };
+      }
+
+  abbrev pub start_sound : 1 ≤ n → Sound plan start n
+  start_sound some = record { machine = first plan.kind n; mirror = start_mirror some; keeps = first_inv plan.kind n; arms_are = refl }

@@ -1,0 +1,15 @@
+use Rattle.std.proofs.Common.{rules, subst}
+use Rattle.door.specs.States.{made}
+use Rattle.plantday.specs.Day.{FairDay}
+use Rattle.plantday.proofs.day_over.Goals as goal
+
+pub returns-clause-registers : goal.returns-clause-registers
+returns-clause-registers g c =
+    let door = g.D.Door.table in
+    let gate = c.whole_day-gate.result in
+    let bank = c.new.ensures in
+    let over = subst (λ bytes. FairDay door (made door c.new.result.ghost_name 255 7 6 bytes) gate) bank.holds c.whole_day-gate.ensures.fair in (
+      gate,
+      subst (λ memory. FairDay door (made door memory 255 7 6 c.args.memory.now) gate) bank.lent over,
+      search rules,
+    )

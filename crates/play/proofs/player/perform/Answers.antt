@@ -1,0 +1,32 @@
+use Rattle.std.proofs.Common.{◌≡◌, length, Ok, sym, ap, ◌∙◌}
+use Rattle.door.specs.States.{made}
+use Rattle.play.specs.Playing.{start, end, obeyed_all, refusals, play_text, play_answer, play_regs, play_memory}
+use Rattle.play.specs.Reports.{report_text}
+use Rattle.play.specs.Text.{overwritten}
+use Rattle.play.proofs.Lent.{obeyed_all_lent}
+use Rattle.play.proofs.player.perform.Goals as goal
+
+pub returns : goal.returns
+returns g c =
+    let door = g.D.Door.table in
+    let high = g.B.Bank.HIGHEST in
+    let lent = g.B.Bank.memory c.args.bank in
+    let regs = g.B.Bank.values c.args.bank in
+    let memory = c.args.memory.now in
+    let said = c.in-Ok.schedule in
+    let playable = sym c.ready.ensures ∙ c.in-Ok.is in
+    let first : c.make-gate.result ≡ start door lent high regs said =
+    c.make-gate.ensures ∙ ap (λ arms. made door lent high 0 arms regs) (c.from.ensures ∙ ap (λ h. h.arms) c.heading-heading.ensures) in
+    let last : c.obey_all-refused.new.gate ≡ end door lent high regs said =
+    c.obey_all-refused.ensures.after ∙ ap (λ s. obeyed_all door s said.orders) first in
+    let refused = c.obey_all-refused.ensures.refused ∙ ap (λ s. refusals door s said.orders) first in
+    let orders = ap (λ h. h.orders) c.heading-heading.ensures in
+    let text : report_text door c.obey_all-refused.new.gate c.heading-heading.result.orders c.obey_all-refused.result ≡ play_text door lent high regs said =
+    λ i. report_text door (last i) (orders i) (refused i) in
+    record {
+      answer = ap Ok (c.put_report-length.ensures.answer ∙ ap length text) ∙ sym (ap (play_answer door lent high regs) playable);
+      same_bank = c.into_bank.ensures.lent ∙ (ap (λ s. s.memory) last ∙ obeyed_all_lent door (start door lent high regs said) said.orders);
+      registers = c.into_bank.ensures.values ∙ (ap (λ s. s.regs) last ∙ sym (ap (play_regs door lent high regs) playable));
+      report = c.put_report-length.ensures.after ∙ (ap (overwritten memory) text ∙ sym (ap (play_memory door lent high regs memory) playable));
+      fits = c.put_report-length.ensures.fits;
+    }
