@@ -1,10 +1,13 @@
 -- A pass that was just given is taken back, and one that is refused alters nothing.
-use Rattle.std.proofs.Common.{◌≡◌, ℕ, Ok, Err, None, Option, Result, IsTrue, IfOk, IsOk, sym, ap, ◌∙◌, subst, arith}
-use Rattle.door.specs.Calls.{refusal_of, after, unless, answered, knows}
+use Rattle.std.proofs.Common.{◌≡◌, ℕ, Bool, not, T, ◌≢◌, Ok, Err, None, Option, Result, IsTrue, IfOk, IsOk, IsErr, sym, ap, ◌∙◌, subst, arith}
+use Rattle.std.proofs.lemmas.Bool.Decides.{nat_tests}
+use Rattle.door.specs.Calls.{refusal_of, after, unless, answered, knows, way_answer}
+use Rattle.door.specs.History.{is_in}
 use Rattle.door.specs.States.{State}
 use Rattle.door.specs.Table.{Table}
-use Rattle.door.specs.declared.call.Call.TheVariants.{Admit, Leave}
+use Rattle.door.specs.declared.call.Call.TheVariants.{Begin, Admit, Leave}
 use Rattle.door.specs.declared.phase.Phase.{Phase}
+use Rattle.door.specs.declared.phase.Phase.TheVariants as P
 use Rattle.door.specs.declared.refusal.Refusal.{Refusal}
 use Rattle.gate.specs.Answers.{handed_back, admit_answer, leave_answer}
 use Rattle.gate.specs.declared.pass.HandedBack.{HandedBack}
@@ -27,6 +30,9 @@ module _ {At : Type 0} (door : Table At) where
   pub strange : (s t : State At) (pass : Pass) (back : HandedBack) → leave_answer door s pass ≡ Err back → t ≡ after door s (Leave pass.gate pass.arm) → (t ≡ s) × (back.pass ≡ pass)
   strange s t pass back h is = let x = handed_stays (refusal_of door s (Leave pass.gate pass.arm)) pass back _ s h in (is ∙ x.0, x.1)
 
+  pub of_another : (s : State At) (pass : Pass) (answer : Result Phase HandedBack) → pass.gate ≢ s.number → answer ≡ leave_answer door s pass → IsErr answer
+  of_another s pass answer ne is = grind (arith, nat_tests)
+
   -- one that was just given
   pub taken : (s t : State At) (given : Result Pass Refusal) (pass shown : Pass) (left : Result Phase HandedBack) → IfOk given (λ p. IsTrue (knows door s p.gate p.arm)) → given ≡ Ok pass
       → t ≡ s → shown ≡ pass → left ≡ leave_answer door t shown → IsOk left
@@ -35,8 +41,19 @@ module _ {At : Type 0} (door : Table At) where
       let known : knows door t shown.gate shown.arm ≡ knows door s pass.gate pass.arm = ap (λ x. knows door x shown.gate shown.arm) stays ∙ ap (λ p. knows door s p.gate p.arm) same in
       grind arith
 
-  admitted : (s : State At) (i : ℕ) (pass : Pass) → refusal_of door s (Admit i) ≡ None → admit_answer door s i ≡ Ok pass → (pass.gate ≡ s.number) × (pass.arm ≡ i)
+  pub admitted : (s : State At) (i : ℕ) (pass : Pass) → refusal_of door s (Admit i) ≡ None → admit_answer door s i ≡ Ok pass → (pass.gate ≡ s.number) × (pass.arm ≡ i)
   admitted s i pass none h = (grind arith, grind arith)
+
+  -- an arm that was just admitted is not admitted again
+  out_once : (t : State At) (gate i : ℕ) (answer : Result Pass Refusal) → IsTrue (knows door t gate i) → answer ≡ admit_answer door t i → IsErr answer
+  out_once t gate i answer known is = grind arith
+
+  pub given_once : (s t : State At) (i : ℕ) (given : Result Pass Refusal) (pass : Pass) (answer : Result Pass Refusal) → refusal_of door s (Admit i) ≡ None → given ≡ admit_answer door s i → given ≡ Ok pass
+      → IfOk given (λ p. IsTrue (knows door t p.gate p.arm)) → answer ≡ admit_answer door t i → IsErr answer
+  given_once s t i given pass answer none first ok known is =
+      let here : IsTrue (knows door t pass.gate pass.arm) = subst (λ r. IfOk r (λ p. IsTrue (knows door t p.gate p.arm))) ok known in
+      let arm = (admitted s i pass none (sym first ∙ ok)).1 in
+      out_once t pass.gate i answer (subst (λ k. IsTrue (knows door t pass.gate k)) arm here) is
 
   -- admitted and left
   pub visit : (s t u : State At) (i : ℕ) (pass shown : Pass) → refusal_of door s (Admit i) ≡ None → admit_answer door s i ≡ Ok pass → shown ≡ pass → t ≡ after door s (Admit i)
@@ -50,3 +67,17 @@ module _ {At : Type 0} (door : Table At) where
       ∙ ap (λ g. after door inside (Leave g pass.arm)) is.0
       ∙ ap (λ k. after door inside (Leave s.number k)) is.1
       ∙ sym (ap (λ r. unless r (after door inside (Leave s.number i)) s) none)
+
+  -- an arm that does not wait, after calls that were refused
+  no_way : (s : State At) (i : ℕ) → T (not (is_in door P.W s i)) → IsErr (way_answer door s i)
+  no_way s i h = grind arith
+
+  pub still_no_way : (s t u : State At) (i : ℕ) (begun : Result Phase Refusal) (given : Result Pass Refusal) (e f : Refusal) (answer : Result Bool Refusal)
+      → T (not (is_in door P.W s i))
+      → begun ≡ answered (refusal_of door s (Begin i)) P.D → begun ≡ Err e → t ≡ after door s (Begin i)
+      → given ≡ admit_answer door t i → given ≡ Err f → u ≡ after door t (Admit i)
+      → answer ≡ way_answer door u i → IsErr answer
+  still_no_way s t u i begun given e f answer h first not_begun is second not_given then last =
+      let begins = is ∙ refused_stays (refusal_of door s (Begin i)) P.D e _ s (sym first ∙ not_begun) in
+      let stays = again t u i f (sym second ∙ not_given) then ∙ begins in
+      subst IsErr (sym (last ∙ ap (λ x. way_answer door x i) stays)) (no_way s i h)

@@ -2,6 +2,7 @@ ghost use Rattle.std.specs.Prelude.{◌≡◌};
 
 use bank::Bank;
 use std::cell::Cell;
+use std::mem;
 use std::rc::Rc;
 
 // So many reads and writes.
@@ -73,13 +74,12 @@ impl Bank for CountingBank {
         self.registers.get(i).map(|byte| u64::from(*byte))
     }
 
-    fn write(&mut self, i: usize, v: u64) -> bool {
+    fn write(&mut self, i: usize, v: u64) -> Option<u64> {
         add(&self.accesses.writes);
         if i < self.registers.len() && v <= Self::HIGHEST {
-            self.registers[i] = v as u8;
-            true
+            Some(u64::from(mem::replace(&mut self.registers[i], v as u8)))
         } else {
-            false
+            None
         }
     }
 }

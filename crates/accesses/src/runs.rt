@@ -66,7 +66,6 @@ pub fn watch<D: Door>(gate: &mut Watched<D>, arm: usize, other: usize)
 }
 
 // A run in which at each turn an arm does what its phase asks for, and is watched.
-#[tactic(auto, using(crate::proofs::Turns::turned_n))]
 pub(crate) fn lively<D: Door>(gate: &mut Watched<D>, turns: u64)
     requires { 1 ≤ gate.old.gate.n }
     ensures { gate.new.gate ≡ run_of D.table turns gate.old.gate }

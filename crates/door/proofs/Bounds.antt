@@ -25,7 +25,7 @@ pub record BoundedArm {At : Type 0} (a : Arm At) : Type 0 where
 pub kept_set : {X : Type 0} (P : X → Type 0) (xs : List X) (i : ℕ) (x d : X) → ((k : ℕ) → P (get_or xs k d)) → P x → (k : ℕ) → P (get_or (set xs i x) k d)
 kept_set P xs i x d all one k = grind (arith, get_or-set_same, get_or-set_other, set_past, all k)
 
-kept_replicate : {X : Type 0} (P : X → Type 0) (n : ℕ) (x d : X) → P x → P d → (k : ℕ) → P (get_or (replicate n x) k d)
+pub kept_replicate : {X : Type 0} (P : X → Type 0) (n : ℕ) (x d : X) → P x → P d → (k : ℕ) → P (get_or (replicate n x) k d)
 kept_replicate P n x d px pd k = grind (arith, get_or-replicate, get_or_past, length-replicate)
 
 zeros : (n k : ℕ) → get_or (replicate n 0) k 0 ≤ tally_limit

@@ -21,4 +21,5 @@ pub mod Rows
 pub mod Fairness
 -- what a state never exceeds; the access of an accepted step can be made
 pub mod Bounds
+pub mod Turns
 pub mod Makeable

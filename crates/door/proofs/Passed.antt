@@ -39,7 +39,7 @@ Past q = (T (same_phase P.D q) → ⊥) × (T (same_phase P.X q) → ⊥)
 was_before : (bit : Bool) (arms : ℕ → Stage) (a a' : Stage) (b' : Bool) → Goes bit arms a a' b' → T (at P.W a') → T (at P.W a) ⊎ T (at P.D a)
 was_before bit arms a a' b' goes h = grind arith
 
-two_phases : (a p q : Phase) → (T (same_phase p q) → ⊥) → T (same_phase a p) → T (same_phase a q) → ⊥
+pub two_phases : (a p q : Phase) → (T (same_phase p q) → ⊥) → T (same_phase a p) → T (same_phase a q) → ⊥
 two_phases a p q d x y = grind arith
 
 waits_stage : (a : Stage) → T (at P.W a) → (t : Bool) × (a ≡ waiting t)
@@ -53,9 +53,9 @@ module _ {At : Type 0} (door : Table At) where
       let t : is_arm s v ≡ true = is_true (is_arm s v) (arm_is s v lo hi) in
       rw t (ap (λ z. same_phase z p) (phase_stage (phase_at door s v) (door.turned (arm_at door s v).position) (arm_at door s v).side))
 
-  -- the position of arm v with the record of arm i replaced
-  position_set : (s : State At) (i v : ℕ) (r : Arm At) → (((v - 1) ≡ (i - 1)) × ((get_or (set s.arms (i - 1) r) (v - 1) (no_arm door)).position ≡ r.position)) ⊎ ((get_or (set s.arms (i - 1) r) (v - 1) (no_arm door)).position ≡ (arm_at door s v).position)
-  position_set s i v r = grind (arith, get_or-set_same, get_or-set_other, set_past)
+  -- the record of arm v with that of arm i replaced
+  pub record_set : (s : State At) (i v : ℕ) (r : Arm At) → (((v - 1) ≡ (i - 1)) × (arm_at door (with_arm i r s) v ≡ r)) ⊎ (arm_at door (with_arm i r s) v ≡ arm_at door s v)
+  record_set s i v r = grind (arith, get_or-set_same, get_or-set_other, set_past)
 
   module _ (phased : Phased door) (s : State At) (v : ℕ) (q : Phase) (past : Past q) where
     abbrev Was : State At → Bool → Type 0
@@ -63,9 +63,9 @@ module _ {At : Type 0} (door : Table At) where
 
     visit_was : (i : ℕ) (p : At) (n : ℕ) (o : Bool) → (v - 1 ≡ i - 1 → T (same_phase (door.phase p) q) → T (is_in door q s v)) → T (is_in door q (with_arm i (with_visit p n o (arm_at door s i)) s) v) → T (is_in door q s v)
     visit_was i p n o h t = ⊎_elim
-        (λ x. h x.0 (subst (λ z. T (same_phase (door.phase z) q)) x.1 t))
-        (λ x. subst (λ z. T (same_phase (door.phase z) q)) x t)
-        (position_set s i v (with_visit p n o (arm_at door s i)))
+        (λ x. h x.0 (subst (λ a. T (same_phase (door.phase a.position) q)) x.1 t))
+        (λ x. subst (λ a. T (same_phase (door.phase a.position) q)) x t)
+        (record_set s i v (with_visit p n o (arm_at door s i)))
 
     step_was : (i : ℕ) → 1 ≤ i → 1 ≤ v → i ≢ v → T (is_in door q (stepped door i s) v) → T (is_in door q s v)
     step_was i lo vlo ne t =
@@ -73,8 +73,8 @@ module _ {At : Type 0} (door : Table At) where
         let t' : T (same_phase (door.phase (get_or (set s.arms (i - 1) (arm_after door s i)) (v - 1) (no_arm door)).position) q) = subst (λ z. T (same_phase (door.phase z) q)) same_as.0 t in
         ⊎_elim
         (λ x. absurd (ne (let y = x.0 in omega arith)))
-        (λ x. subst (λ z. T (same_phase (door.phase z) q)) x t')
-        (position_set s i v (arm_after door s i))
+        (λ x. subst (λ a. T (same_phase (door.phase a.position) q)) x t')
+        (record_set s i v (arm_after door s i))
 
     by_refusal : (c : Call) → (refusal_of door s c ≡ None → Was (done door s c) (step_of v c)) → Was (after door s c) (steps door v s c)
     by_refusal c f = by_answer (refusal_of door s c) (done door s c) s (λ t y. Was t (y && step_of v c)) f (λ d t. t)
@@ -175,7 +175,7 @@ module _ {At : Type 0} (door : Table At) where
         go (suc n) zero = phased.idle
         go (suc n) (suc j) = go n j
 
-    start_rests : (k : ℕ) → (meaning_of door start).arms k ≡ resting
+    pub start_rests : (k : ℕ) → (meaning_of door start).arms k ≡ resting
     start_rests k = by (λ x. x ≡ resting) (is_arm start k) (stage_of (phase_at door start k) (door.turned (arm_at door start k).position) (arm_at door start k).side) resting
         (λ t. ap (λ p. stage_of p (door.turned (arm_at door start k).position) (arm_at door start k).side) (start_fresh k)) (λ d. refl)
 

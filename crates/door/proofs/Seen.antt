@@ -1,4 +1,4 @@
--- The tally leaves each record's position, side and mark.
+-- The tally leaves each record's position, side, mark and visits.
 use Rattle.std.proofs.Common.{◌≡◌, ℕ, zero, suc, Bool, List, [], ◌∷◌, length, get_or, set, refl, arith}
 use Rattle.std.proofs.lemmas.List.{length-set, get_or-set_same, get_or-set_other, set_past}
 use Rattle.door.specs.Table.{Table}
@@ -9,7 +9,7 @@ use Rattle.door.specs.declared.phase.Phase.{Phase}
 use Rattle.door.proofs.Tables.{length_each, tallied_holds}
 
 abbrev pub Seen : {At : Type 0} → Arm At → Arm At → Type 0
-Seen a b = (a.position ≡ b.position) × (a.side ≡ b.side) × (a.out ≡ b.out)
+Seen a b = (a.position ≡ b.position) × (a.side ≡ b.side) × (a.out ≡ b.out) × (a.visits ≡ b.visits)
 
 module _ {At : Type 0} (door : Table At) where
   row_seen : (r : List ℕ) (t : List Bool) (k : ℕ) (arms : List (Arm At)) (j : ℕ) → Seen (get_or (set arms k (with_row r t (get_or arms k (no_arm door)))) j (no_arm door)) (get_or arms j (no_arm door))
@@ -19,7 +19,7 @@ module _ {At : Type 0} (door : Table At) where
   counted_seen b k a = grind arith
 
   each_seen : (f : ℕ → Arm At → Arm At) → ((k : ℕ) (a : Arm At) → Seen (f k a) a) → (k : ℕ) (arms : List (Arm At)) (j : ℕ) → Seen (get_or (each f k arms) j (no_arm door)) (get_or arms j (no_arm door))
-  each_seen f h k [] j = (refl, refl, refl)
+  each_seen f h k [] j = (refl, refl, refl, refl)
   each_seen f h k (a ∷ more) zero = h k a
   each_seen f h k (a ∷ more) (suc j) = each_seen f h (suc k) more j
 
@@ -27,7 +27,7 @@ module _ {At : Type 0} (door : Table At) where
   SameTable new old = ((j : ℕ) → Seen (get_or new j (no_arm door)) (get_or old j (no_arm door))) × (length new ≡ length old)
 
   same_table : (arms : List (Arm At)) → SameTable arms arms
-  same_table arms = ((λ j. (refl, refl, refl)), refl)
+  same_table arms = ((λ j. (refl, refl, refl, refl)), refl)
 
   row_table : (r : List ℕ) (t : List Bool) (k : ℕ) (arms : List (Arm At)) → SameTable (set arms k (with_row r t (get_or arms k (no_arm door)))) arms
   row_table r t k arms = (row_seen r t k arms, length-set arms k _)

@@ -2,11 +2,11 @@
 use Rattle.std.specs.Prelude.{ℕ, take, ◌+◌, ◌-◌, Bool, true, false, if◌then◌else◌, not, ◌&&◌, ◌||◌, List, [], ◌∷◌, Some, None, Ok, Err, Option, Result, ◌==◌, nat_lt, slice_set}
 use Rattle.std.specs.List.{list_any}
 use Rattle.door.specs.Limits.{visit_limit}
-use Rattle.door.specs.Registers.{value_read, regs_after}
+use Rattle.door.specs.Registers.{value_read, regs_after, turns_bit}
 use Rattle.door.specs.Table.{Table}
 use Rattle.door.specs.Arms.{side_of, has_side, advanced}
 use Rattle.door.specs.Tallies.{tallied}
-use Rattle.door.specs.States.{State, is_arm, arm_at, phase_at, bit_of, with_table, with_arm}
+use Rattle.door.specs.States.{State, is_arm, arm_at, phase_at, bit_of, with_arm}
 use Rattle.door.specs.declared.access.Access.{Access}
 use Rattle.door.specs.declared.arm.Arm.{Arm}
 use Rattle.door.specs.declared.call.Call.{Call}
@@ -84,13 +84,14 @@ module _ {At : Type 0} (door : Table At) where
   abbrev pub arm_after : State At → ℕ → Arm At
   arm_after s i = advanced door s.n (value_read s.regs (access_at s i)) (arm_at door s i)
 
-  -- one access, one record moved on, and the rows that tell of it
+  -- one access, one record moved on, the rows that tell of it, and the turns
   abbrev pub stepped : ℕ → State At → State At
   stepped i s =
-      with_table
-      (regs_after s.high s.regs (access_at s i))
-      (tallied door (i - 1) (phase_at door s i) (door.phase (arm_after s i).position) (slice_set s.arms (i - 1) (arm_after s i)))
-      s
+      record s {
+        regs = regs_after s.high s.regs (access_at s i);
+        arms = tallied door (i - 1) (phase_at door s i) (door.phase (arm_after s i).position) (slice_set s.arms (i - 1) (arm_after s i));
+        turns = s.turns + (if turns_bit s.high s.regs (access_at s i) then 1 else 0);
+      }
 
   -- what an accepted call yields
   abbrev pub done : State At → Call → State At

@@ -9,6 +9,7 @@ pub mod Tallies
 pub mod States
 pub mod Calls
 pub mod History
+pub mod Turns
 pub mod Meaning
 pub mod Rules
 pub mod Law

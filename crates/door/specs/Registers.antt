@@ -1,6 +1,6 @@
--- What an access reads, and what it leaves in the registers.
-use Rattle.std.specs.Prelude.{ℕ, List, slice_index}
-use Rattle.bank.specs.Registers.{written}
+-- What an access reads, what it leaves in the registers, and whether it turns the bit.
+use Rattle.std.specs.Prelude.{ℕ, Bool, false, not, ◌&&◌, List, Some, None, Option, ◌==◌, slice_index}
+use Rattle.bank.specs.Registers.{replaced, written}
 use Rattle.door.specs.declared.access.Access.{Access}
 use Rattle.door.specs.declared.access.Access.TheVariants.{Read, Write}
 
@@ -17,3 +17,13 @@ value_read regs x = 0
 abbrev pub regs_after : ℕ → List ℕ → Access → List ℕ
 regs_after high regs (Write q v) = written high regs q v
 regs_after high regs x = regs
+
+-- whether a write of v that replaced a value, or none where it was refused, changed it
+abbrev pub changed : ℕ → Option ℕ → Bool
+changed v (Some former) = not (former == v)
+changed v None = false
+
+-- whether an access turns the bit: a write to register 0 that is accepted and changes its value
+abbrev pub turns_bit : ℕ → List ℕ → Access → Bool
+turns_bit high regs (Write q v) = q == group && changed v (replaced high regs q v)
+turns_bit high regs x = false

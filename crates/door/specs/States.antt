@@ -9,7 +9,8 @@ use Rattle.door.specs.declared.arm.Arm.{Arm}
 use Rattle.door.specs.declared.phase.Phase.{Phase}
 
 -- memory: which borrowed memory the bank writes; high: the highest value of a register; number: the gate's;
--- n: how many arms; regs: the values of the bank; arms: the records, arm i at i - 1, each at a position of the door
+-- n: how many arms; regs: the values of the bank; arms: the records, arm i at i - 1, each at a position of the door;
+-- turns: how often the bit turned since the making
 pub record State (At : Type 0) : Type 0 where
   pub memory : ℕ
   pub high : ℕ
@@ -17,6 +18,7 @@ pub record State (At : Type 0) : Type 0 where
   pub n : ℕ
   pub regs : List ℕ
   pub arms : List (Arm At)
+  pub turns : ℕ
 
 module _ {At : Type 0} where
   abbrev pub is_arm : State At → ℕ → Bool
@@ -45,6 +47,7 @@ module _ {At : Type 0} (door : Table At) where
         n = arms_for door high (length regs) wanted;
         regs = made_regs door (arms_for door high (length regs) wanted) regs;
         arms = replicate arm_limit (fresh door);
+        turns = 0;
       }
 
   abbrev pub arm_at : State At → ℕ → Arm At

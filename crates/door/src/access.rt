@@ -1,5 +1,5 @@
 ghost use Rattle.std.specs.Prelude.{◌≡◌, slice_index};
-ghost use Rattle.door.specs.Registers.{value_read, regs_after};
+ghost use Rattle.door.specs.Registers.{value_read, regs_after, turns_bit};
 
 use bank::Bank;
 
@@ -16,6 +16,15 @@ pub enum Access {
     Write(usize, u64),
 }
 
+/// What came of an access.
+#[derive(Clone, Copy, Debug, PartialEq, Eq)]
+pub struct Outcome {
+    /// The value read; 0 where none is read.
+    pub value: u64,
+    /// Whether the bit turned: a write to register 0 that the bank accepted, and that changed its value.
+    pub turned: bool,
+}
+
 /// The value of register i, or 0 where the bank has none.
 #[tactic(auto, using(crate::proofs::Registers::read_or_zero))]
 pub fn value_at<B: Bank>(bank: &B, i: usize) -> u64
@@ -25,18 +34,28 @@ pub fn value_at<B: Bank>(bank: &B, i: usize) -> u64
 }
 
 impl Access {
-    /// Makes the access, and answers the value read; 0 where none is read. What the bank refuses to write changes nothing.
-    pub fn make<B: Bank>(self, bank: &mut B) -> u64
-        ensures value { result ≡ value_read (B.values bank.old) self }
+    /// Makes the access, and answers what came of it. What the bank refuses to write changes nothing.
+    pub fn make<B: Bank>(self, bank: &mut B) -> Outcome
+        ensures value { result.value ≡ value_read (B.values bank.old) self }
+        ensures turned { result.turned ≡ turns_bit B.HIGHEST (B.values bank.old) self }
         ensures after { B.values bank.new ≡ regs_after B.HIGHEST (B.values bank.old) self }
         ensures lent { B.memory bank.new ≡ B.memory bank.old }
     {
         match self {
-            Access::Nothing => 0,
-            Access::Read(i) => value_at(bank, i),
+            Access::Nothing => Outcome {
+                value: 0,
+                turned: false,
+            },
+            Access::Read(i) => Outcome {
+                value: value_at(bank, i),
+                turned: false,
+            },
             Access::Write(i, value) => {
-                let _ = bank.write(i, value);
-                0
+                let replaced = bank.write(i, value);
+                Outcome {
+                    value: 0,
+                    turned: i == GROUP && replaced.is_some_and(|former| former != value),
+                }
             }
         }
     }

@@ -44,6 +44,8 @@ pub data Case (At : Type 0) : Type 0 where
   frees : State At → ℕ → Bool → Case At
   -- a gate, an arm and another: how often the other went inside past it
   counts : State At → ℕ → ℕ → ℕ → Case At
+  -- a gate: how often its bit turned
+  turned : State At → ℕ → Case At
 
 -- the file has a fault of which P holds
 abbrev pub Faulty : List ℕ → (PlayFault → Type 0) → Type 0
@@ -79,6 +81,7 @@ module _ {At : Type 0} (door : Table At) (highest : ℕ) (registers : List ℕ) 
   Holds (refuses s call number) = (r : Refusal) × (refusal_of door s call ≡ Some r) × (refusal_number r ≡ number)
   Holds (frees s i free) = way_answer door s i ≡ Ok free
   Holds (counts s w b times) = (t : Tally) × (tally_answer door s w b ≡ Ok t) × (t.count ≡ times)
+  Holds (turned s times) = s.turns ≡ times
 
   -- each case of a table holds
   abbrev pub EachHolds : List (Case At) → Type 0

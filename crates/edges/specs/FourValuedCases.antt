@@ -5,8 +5,8 @@ use Rattle.door.specs.declared.call.Call.TheVariants.{Begin as begin, Way as way
 use Rattle.four_valued.specs.Positions.{four_valued}
 use Rattle.four_valued.specs.declared.position.FourValued.{FourValued}
 use Rattle.edges.specs.Cases as C
-use Rattle.edges.specs.Cases.{Case, plays, gives, bars, accepts, refuses, frees, counts}
-use Rattle.edges.specs.Stories.{two_arms, three_inside, three_gone, one_waits, two_inside, two_gone, two_again}
+use Rattle.edges.specs.Cases.{Case, plays, gives, bars, accepts, refuses, frees, counts, turned}
+use Rattle.edges.specs.Stories.{two_arms, three_inside, three_gone, one_waits, two_inside, two_gone, two_again, turned_back}
 
 abbrev pub highest : ℕ
 highest = 255
@@ -34,6 +34,9 @@ table =
     ∷ plays (two_gone 3) "arms 3 orders 28 refused 0 bit 1\n1 W 1 1 1\n2 I - 1 0\n3 I - 1 0\n"
     ∷ plays (two_again 3 9) "arms 3 orders 41 refused 0 bit 1\n1 W 1 1 2\n2 F 1 2 0\n3 I - 1 0\n"
     ∷ counts (gate_after 3 (two_again 3 9)) 1 2 2
+    ∷ turned (gate_after 2 (two_arms 3)) 1
+    ∷ turned (gate_after 3 (two_gone 3)) 1
+    ∷ turned (gate_after 3 (turned_back 3 9)) 2
     ∷ gives highest 33 40 32
     ∷ gives highest 32 40 31
     ∷ gives highest 1 40 0

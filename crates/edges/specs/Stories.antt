@@ -31,3 +31,7 @@ module _ (doorway : ℕ) where
   -- then 2 begins and goes inside again, which takes so many steps after its doorway
   abbrev pub two_again : ℕ → List ℕ
   two_again waiting = two_gone ++ 0x08 ∷ replicate (doorway + waiting) 0x09
+
+  -- then 2, with side 1, makes its first exit step: the bit is 0 again
+  abbrev pub turned_back : ℕ → List ℕ
+  turned_back waiting = two_again waiting ++ 0x0A ∷ 0x09 ∷ []

@@ -6,8 +6,8 @@ use Rattle.door.specs.declared.call.Call.TheVariants.{Begin as begin, Way as way
 use Rattle.three_bits.specs.Positions.{three_bits}
 use Rattle.three_bits.specs.declared.position.ThreeBits.{ThreeBits}
 use Rattle.edges.specs.Cases as C
-use Rattle.edges.specs.Cases.{Case, writes, reads, opens, fails, tells, plays, gives, accepts, refuses, frees, counts}
-use Rattle.edges.specs.Stories.{two_arms, three_inside, three_gone, one_waits, two_inside, two_gone, two_again}
+use Rattle.edges.specs.Cases.{Case, writes, reads, opens, fails, tells, plays, gives, accepts, refuses, frees, counts, turned}
+use Rattle.edges.specs.Stories.{two_arms, three_inside, three_gone, one_waits, two_inside, two_gone, two_again, turned_back}
 
 abbrev pub highest : ℕ
 highest = 1
@@ -51,6 +51,9 @@ table =
     ∷ plays (two_gone 5) "arms 3 orders 34 refused 0 bit 1\n1 W 1 1 1\n2 I - 1 0\n3 I - 1 0\n"
     ∷ plays (two_again 5 10) "arms 3 orders 50 refused 0 bit 1\n1 W 1 1 2\n2 F 1 2 0\n3 I - 1 0\n"
     ∷ counts (gate_after 3 (two_again 5 10)) 1 2 2
+    ∷ turned (gate_after 2 (two_arms 5)) 1
+    ∷ turned (gate_after 3 (two_gone 5)) 1
+    ∷ turned (gate_after 3 (turned_back 5 10)) 2
     ∷ gives highest 97 40 32
     ∷ gives highest 96 40 31
     ∷ gives highest 3 40 0

@@ -39,12 +39,12 @@ module _ {At : Type 0} (door : Table At) where
   abbrev pub leave_answer : State At → Pass → Result Phase HandedBack
   leave_answer s p = handed_back p (refusal_of door s (leave p.gate p.arm))
 
-  -- what look tells of a record
-  abbrev pub view_of : Arm At → View
-  view_of a = record { phase = door.phase a.position; side = a.side; index = door.index a.position; visits = a.visits; out = a.out }
+  -- what look tells of a record, and of the turns
+  abbrev pub view_of : Arm At → ℕ → View
+  view_of a turns = record { phase = door.phase a.position; side = a.side; index = door.index a.position; visits = a.visits; out = a.out; turns = turns }
 
   abbrev pub look_answer : State At → ℕ → Result View Refusal
-  look_answer s i = answered (refusal_of door s (look i)) (view_of (arm_at door s i))
+  look_answer s i = answered (refusal_of door s (look i)) (view_of (arm_at door s i) s.turns)
 
   -- what tally tells of a record and another arm
   abbrev pub tally_of : Arm At → ℕ → Tally

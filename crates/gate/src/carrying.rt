@@ -3,6 +3,7 @@ ghost use Rattle.door.specs.States.{made};
 ghost use Rattle.door.specs.Calls.{after, run};
 ghost use Rattle.door.specs.Law.{Fair, PassingBound};
 ghost use Rattle.door.specs.Rules.{ShowsRules};
+ghost use Rattle.door.specs.Turns.{TurnsTold};
 
 use crate::gate::Gate;
 use crate::pass::{HandedBack, Pass};
@@ -62,6 +63,7 @@ pub fn carry_out<B: Bank, D: Door>(
     ensures law { Fair D.table (made D.table (B.memory bank) B.HIGHEST number wanted (B.values bank)) calls.now result }
     ensures rules { ShowsRules D.table }
     ensures bound { PassingBound D.table }
+    ensures turns { TurnsTold D.table (made D.table (B.memory bank) B.HIGHEST number wanted (B.values bank)) calls.now result }
 {
     let mut gate = Gate::<B, D>::make(bank, number, wanted);
     for call in calls {

@@ -11,6 +11,7 @@ pub struct Gate<B: Bank, D: Door> {
     pub(crate) number: u16,
     pub(crate) n: usize,
     pub(crate) arms: [Arm<D>; ARM_LIMIT],
+    pub(crate) turns: u64,
 }
 
 // Clauses see a gate as its state. Only a making and calls lead to one.
@@ -20,9 +21,9 @@ impl<B: Bank, D: Door> Model for Gate<B, D> {
 
     ghost Value = { State D };
 
-    ghost view = { λ g. record { memory = B.memory g.bank; high = B.HIGHEST; number = g.number; n = g.n; regs = B.values g.bank; arms = g.arms } };
+    ghost view = { λ g. record { memory = B.memory g.bank; high = B.HIGHEST; number = g.number; n = g.n; regs = B.values g.bank; arms = g.arms; turns = g.turns } };
 
-    ghost invariant = { λ g. IsGate D.table (record { memory = B.memory g.bank; high = B.HIGHEST; number = g.number; n = g.n; regs = B.values g.bank; arms = g.arms }) };
+    ghost invariant = { λ g. IsGate D.table (record { memory = B.memory g.bank; high = B.HIGHEST; number = g.number; n = g.n; regs = B.values g.bank; arms = g.arms; turns = g.turns }) };
 }
 
 /// What look tells of an arm.
@@ -37,6 +38,8 @@ pub struct View {
     pub visits: u32,
     /// Whether its pass is out.
     pub out: bool,
+    /// How often the bit turned since the gate was made, whichever arm turned it.
+    pub turns: u64,
 }
 
 /// What tally tells of two arms.

@@ -74,6 +74,7 @@ impl<B: Bank, D: Door> Gate<B, D> {
             number,
             n,
             arms: [arm; ARM_LIMIT],
+            turns: 0,
         }
     }
 
@@ -87,6 +88,7 @@ impl<B: Bank, D: Door> Gate<B, D> {
             number: _,
             n: _,
             arms: _,
+            turns: _,
         } = self;
         bank
     }

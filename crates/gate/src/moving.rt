@@ -9,6 +9,7 @@ ghost use Rattle.door.specs.Arms.{advanced};
 use crate::gate::Gate;
 use crate::rows::follow;
 use bank::Bank;
+use door::access::Outcome;
 use door::arm::Arm;
 use door::{Phase, Refusal};
 use doors::Door;
@@ -54,7 +55,7 @@ impl<B: Bank, D: Door> Gate<B, D> {
         Ok(self.move_on(arm))
     }
 
-    // The access of an arm that may step and its next position, and the rows that tell of it; answers the phase after it.
+    // The access of an arm that may step and its next position, the rows that tell of it, and the turns; answers the phase after it.
     fn move_on(&mut self, arm: usize) -> Phase
         requires low { 1 ≤ arm }
         requires high { arm ≤ self.old.n }
@@ -66,10 +67,11 @@ impl<B: Bank, D: Door> Gate<B, D> {
         let record = &mut self.arms[arm - 1];
         let from = record.position.phase();
         let access = record.position.access(arm as u8, record.side_value());
-        let value = access.make(&mut self.bank);
+        let Outcome { value, turned } = access.make(&mut self.bank);
         advance(record, n, value);
         let phase = record.position.phase();
         follow(&mut self.arms, arm - 1, from, phase);
+        self.turns += u64::from(turned);
         phase
     }
 }

@@ -1,6 +1,7 @@
 ghost use Rattle.std.specs.Prelude.{◌≡◌};
 ghost use Rattle.gate.specs.Answers.{look_answer, tally_answer, most_answer};
 ghost use Rattle.door.specs.States.{bit_of};
+ghost use Rattle.door.specs.Turns.{TurnsLaw};
 ghost use Rattle.gate.specs.Gates.{IsGate};
 
 use crate::gate::{Gate, Tally, View};
@@ -29,9 +30,10 @@ impl<B: Bank, D: Door> Gate<B, D> {
         value_at(&self.bank, GROUP)
     }
 
-    /// Phase, side, index, visits and mark of an arm. Refuses with 1.
+    /// Phase, side, index, visits and mark of an arm, and how often the bit turned. Refuses with 1.
     pub fn look(&self, arm: usize) -> Result<View, Refusal>
-        ensures { result ≡ look_answer D.table self.now arm }
+        ensures answer { result ≡ look_answer D.table self.now arm }
+        ensures turns { TurnsLaw D.table self.now }
     {
         let record = self.record(arm)?;
         Ok(View {
@@ -40,6 +42,7 @@ impl<B: Bank, D: Door> Gate<B, D> {
             index: record.position.index(),
             visits: record.visits,
             out: record.out,
+            turns: self.turns,
         })
     }
 

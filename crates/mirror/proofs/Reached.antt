@@ -55,7 +55,7 @@ module _ {At : Type 0} {door : Table At} {plan : Plan door} where
         let r = known_arm s i (step_refusal (phase_at door s i)) e in
         let k : T (may_step (g.arms i)) = subst (λ p. T (not (same_phase p P.I) && not (same_phase p P.F))) (phase_is s g mir i r.0 r.1) (step_none (phase_at door s i) (for_arm_none (is_arm s i) _ e)) in
         goes step i r.0 (let z = mir.size in let y = r.1 in omega arith) k
-        (tallied_mirror s _ (i - 1) (phase_at door s i) (door.phase (arm_after door s i).position) _ (moved g step i) (step_mirror s g mir i r.0 r.1 (inv.own i) k)) (λ b. refl) (λ b. refl) refl
+        (tallied_mirror s _ (i - 1) (phase_at door s i) (door.phase (arm_after door s i).position) _ _ (moved g step i) (step_mirror s g mir i r.0 r.1 (inv.own i) k)) (λ b. refl) (λ b. refl) refl
 
     pub came : (c : Call) → Called plan g s c
     came (Begin i) = by_refusal (Begin i) (λ e.

@@ -2,13 +2,15 @@
 use Rattle.std.proofs.Common.{◌≡◌, ℕ, List, [], ◌∷◌, ◌++◌, sym, ap, ◌∙◌, subst}
 use Rattle.door.specs.Calls.{after, run}
 use Rattle.door.specs.Law.{Fair, ShowsWay}
-use Rattle.door.specs.Rules.{Phased, ShowsRules}
+use Rattle.door.specs.Rules.{Phased, ShowsRules, ShowsBits}
 use Rattle.door.specs.States.{State, made}
 use Rattle.door.specs.Table.{Table}
+use Rattle.door.specs.Turns.{TurnsTold}
 use Rattle.door.specs.declared.call.Call.{Call}
 use Rattle.door.proofs.Fairness.{fair}
 use Rattle.door.proofs.Origins.{run_append}
 use Rattle.door.proofs.Runs.{run_n, run_memory}
+use Rattle.door.proofs.Turns.{turns_told}
 use Rattle.plantday.specs.Day.{Called, FairDay}
 
 module _ {At : Type 0} (door : Table At) where
@@ -18,12 +20,12 @@ module _ {At : Type 0} (door : Table At) where
   pub joined : {s t u : State At} → Called door s t → Called door t u → Called door s u
   joined {s} {t} {u} a b = (a.0 ++ b.0, b.1 ∙ ap (λ x. run door x b.0) a.1 ∙ sym (run_append door a.0 b.0 s))
 
-  -- a gate on which only calls were made is fair
-  pub fair_after : Phased door → ShowsRules door → ShowsWay door → (memory high number wanted : ℕ) (regs : List ℕ) {t : State At}
+  -- a gate on which only calls were made is fair, and its turns are those of the calls
+  pub fair_after : Phased door → ShowsRules door → ShowsBits door → ShowsWay door → (memory high number wanted : ℕ) (regs : List ℕ) {t : State At}
       → Called door (made door memory high number wanted regs) t → FairDay door (made door memory high number wanted regs) t
-  fair_after phased rules way memory high number wanted regs {t} a =
+  fair_after phased rules bits way memory high number wanted regs {t} a =
       let start = made door memory high number wanted regs in
-      (a.0, a.1, subst (Fair door start a.0) (sym a.1) (fair door phased rules way memory high number wanted regs a.0))
+      (a.0, a.1, subst (Fair door start a.0) (sym a.1) (fair door phased rules way memory high number wanted regs a.0), subst (TurnsTold door start a.0) (sym a.1) (turns_told door phased rules bits memory high number wanted regs a.0))
 
   -- calls leave the arm count as it is
   pub n_stays : {s t : State At} → Called door s t → t.n ≡ s.n

@@ -24,6 +24,7 @@ fresh =
       delivered = replicate plant_arms 0;
       passed = replicate plant_arms 0;
       waited = replicate plant_arms 0;
+      turns = 0;
       since = replicate plant_arms 0;
       due = replicate plant_arms false;
       rounds = 0;

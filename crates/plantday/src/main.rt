@@ -1,6 +1,6 @@
 //! A day at a plant: a seeded scheduler that is deliberately unfair steps six arms over a byte bank.
-//! It prints for each arm how many readings were delivered, the most that it was passed, and the longest wait in rounds;
-//! then the same of a day through the four-valued door.
+//! It prints for each arm how many readings were delivered, the most that it was passed, and the longest wait in rounds,
+//! and how often the bit turned; then the same of a day through the four-valued door.
 #![tactic(auto)]
 
 ghost use Rattle.std.specs.Prelude.{◌≡◌, ℕ, ◌+◌, ◌<◌, length, replicate, None};
@@ -116,6 +116,7 @@ fn turn<B: Bank, D: Door>(gate: &mut Gate<B, D>, k: usize, dice: &mut Dice, reco
 fn whole_day<B: Bank, D: Door>(bank: B, record: &mut Record) -> Gate<B, D>
     requires { arms_for D.table B.HIGHEST (length (B.values bank)) plant_arms ≡ plant_arms }
     ensures fair { FairDay D.table (made D.table (B.memory bank) B.HIGHEST 7 plant_arms (B.values bank)) result }
+    ensures turns { «record».new.turns ≡ result.turns }
     ensures lent { result.memory ≡ B.memory bank }
 {
     let mut gate = Gate::<B, D>::make(bank, NUMBER, ARMS);
@@ -124,6 +125,7 @@ fn whole_day<B: Bank, D: Door>(bank: B, record: &mut Record) -> Gate<B, D>
         let k = pick(&mut dice);
         turn(&mut gate, k, &mut dice, record);
     }
+    record.turns = gate.look(1).unwrap().turns;
     gate
 }
 
@@ -135,7 +137,7 @@ fn day_over<'a, D: Door>(
 ) -> &'a mut [u8]
     requires { arms_for D.table 255 (length memory.old) plant_arms ≡ plant_arms }
     ensures lent { result.ghost_name ≡ memory.entry.ghost_name }
-    ensures registers { HoldsFairDay D.table (made D.table memory.entry.ghost_name 255 7 plant_arms memory.old) result.now }
+    ensures registers { HoldsFairDay D.table (made D.table memory.entry.ghost_name 255 7 plant_arms memory.old) result.now «record».new.turns }
 {
     let gate = whole_day::<_, D>(ByteBank::new(memory), record);
     gate.into_bank().into_memory()
@@ -144,7 +146,7 @@ fn day_over<'a, D: Door>(
 // Lends memory for a day: afterwards it holds the gate's registers.
 fn lend<D: Door>(memory: &mut [u8], record: &mut Record, _kind: Kind<'static, D>)
     requires { arms_for D.table 255 (length memory.old) plant_arms ≡ plant_arms }
-    ensures { (name : ℕ) × HoldsFairDay D.table (made D.table name 255 7 plant_arms memory.old) memory.new }
+    ensures { (name : ℕ) × HoldsFairDay D.table (made D.table name 255 7 plant_arms memory.old) memory.new «record».new.turns }
 {
     let _ = day_over::<D>(memory, record, PhantomData);
 }
@@ -155,14 +157,14 @@ fn memory_after_day<D: Door, const COUNT: usize>(
     kind: Kind<'static, D>,
 ) -> [u8; COUNT]
     requires { arms_for D.table 255 COUNT plant_arms ≡ plant_arms }
-    ensures { (memory : ℕ) × HoldsFairDay D.table (made D.table memory 255 7 plant_arms (replicate COUNT 0)) result }
+    ensures { (memory : ℕ) × HoldsFairDay D.table (made D.table memory 255 7 plant_arms (replicate COUNT 0)) result «record».new.turns }
 {
     let mut memory = [0; COUNT];
     lend(&mut memory, record, kind);
     memory
 }
 
-// What the day comes to for each arm.
+// What the day comes to for each arm, and how often the bit turned.
 fn show(rt: &HostRuntime, record: &Record) -> anyhow::Result<()> {
     for k in 0..ARMS {
         let arm = k + 1;
@@ -173,6 +175,8 @@ fn show(rt: &HostRuntime, record: &Record) -> anyhow::Result<()> {
             "arm {arm} delivered {delivered} passed {passed} of {MOST_PASSED} waited {waited} of {MOST_ROUNDS}"
         )?;
     }
+    let turns = record.turns;
+    println!(rt; "turns {turns}")?;
     Ok(())
 }
 

@@ -10,7 +10,7 @@ use gate::Gate;
 // How many arms the plant has.
 pub const ARMS: usize = 6;
 
-// What the day comes to, for each arm.
+// What the day comes to, for each arm and for the gate.
 #[derive(Drop)]
 pub struct Record {
     // The number of the latest reading in the table.
@@ -19,6 +19,8 @@ pub struct Record {
     pub passed: [u8; ARMS],
     // The most whole rounds that it waited.
     pub waited: [u32; ARMS],
+    // How often the bit turned.
+    pub turns: u64,
     // The first whole round of its present wait.
     since: [u32; ARMS],
     // Who has still to move before the round is over.
@@ -34,6 +36,7 @@ impl Record {
             delivered: [0; ARMS],
             passed: [0; ARMS],
             waited: [0; ARMS],
+            turns: 0,
             since: [0; ARMS],
             due: [false; ARMS],
             rounds: 0,

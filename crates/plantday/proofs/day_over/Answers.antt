@@ -12,4 +12,5 @@ returns-clause-registers g c =
       gate,
       subst (λ memory. FairDay door (made door memory 255 7 6 c.args.memory.now) gate) bank.lent over,
       search rules,
+      search rules,
     )

@@ -4,4 +4,4 @@ use Rattle.accesses.proofs.runs.lively.Given as goal
 
 -- so many turns were made
 abbrev pub invariant-loop-t : goal.invariant-loop-t
-invariant-loop-t g l = record { turns : l.gate.gate ≡ run_of g.D.Door.table l.t l.initial.gate.gate; arms : l.gate.gate.n ≡ l.initial.gate.gate.n }
+invariant-loop-t g l = record { ran : l.gate.gate ≡ run_of g.D.Door.table l.t l.initial.gate.gate; arms : l.gate.gate.n ≡ l.initial.gate.gate.n }

@@ -11,7 +11,7 @@ loop-t-preserved g c =
     let gate = c.loop-t.gate.gate in
     let other = c.loop-t.other in
     record {
-      turns = run_on door c.loop-t.t c.arm_count-n.result _ _ _ _ before.turns c.arm_count-n.ensures.arms c.arm_of-arm.ensures.arm turned.gate;
+      ran = run_on door c.loop-t.t c.arm_count-n.result _ _ _ _ before.ran c.arm_count-n.ensures.arms c.arm_of-arm.ensures.arm turned.gate;
       arms = ap (λ s. s.n) turned.gate ∙ turned_n door gate c.arm_of-arm.result ∙ before.arms;
       number = ap (λ s. s.number) turned.gate ∙ turned_number door gate c.arm_of-arm.result ∙ before.number;
       others = ap (λ s. s.n) turned.other ∙ turned_n three_bits other 1 ∙ before.others;

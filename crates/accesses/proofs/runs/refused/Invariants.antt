@@ -6,7 +6,7 @@ use Rattle.accesses.proofs.runs.refused.Given as goal
 abbrev pub invariant-loop-t : goal.invariant-loop-t
 invariant-loop-t g l =
     record {
-      turns : l.gate.gate ≡ run_of g.D.Door.table l.t l.initial.gate.gate;
+      ran : l.gate.gate ≡ run_of g.D.Door.table l.t l.initial.gate.gate;
       arms : l.gate.gate.n ≡ l.initial.gate.gate.n;
       number : l.gate.gate.number ≡ l.initial.gate.gate.number;
       others : l.other.n ≡ l.initial.other.n;

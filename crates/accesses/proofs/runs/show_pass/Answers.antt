@@ -1,6 +1,6 @@
-use Rattle.std.proofs.Common.{sym, refl, ◌∙◌}
+use Rattle.std.proofs.Common.{sym, refl, ap, ◌∙◌}
 use Rattle.three_bits.specs.Positions.{three_bits}
-use Rattle.accesses.proofs.Visits.{strange, taken, visit}
+use Rattle.accesses.proofs.Visits.{admitted, of_another, strange, taken, visit}
 use Rattle.accesses.proofs.runs.show_pass.Goals as goal
 
 pub unwrap-requires : goal.unwrap-requires
@@ -19,3 +19,10 @@ returns-clause-other g c =
     let back = strange g.D.Door.table c.confirm.new.self.gate c.leave.new.self.gate c.confirm.result.0 c.unwrap_err.result (sym c.leave.ensures.answer ∙ c.unwrap_err.ensures) c.leave.ensures.after in
     visit three_bits c.args.other.now c.admit.new.self c.leave-2.new.self 1 c.unwrap-pass.result c.unwrap_err.result.pass c.requires.inside (sym c.admit.ensures.answer ∙ c.unwrap-pass.ensures)
     (back.1 ∙ c.confirm.ensures.same) c.admit.ensures.after c.leave-2.ensures.after
+
+pub unwrap_err-requires : goal.unwrap_err-requires
+unwrap_err-requires g c =
+    let given = (admitted three_bits c.args.other.now 1 c.unwrap-pass.result c.requires.inside (sym c.admit.ensures.answer ∙ c.unwrap-pass.ensures)).0 in
+    let here = ap (λ s. s.number) c.confirm.ensures.after in
+    of_another g.D.Door.table c.confirm.new.self.gate c.confirm.result.0 c.leave.result
+    (λ e. c.requires.numbers (sym here ∙ sym e ∙ ap (λ p. p.gate) c.confirm.ensures.same ∙ given)) c.leave.ensures.answer

@@ -1,5 +1,5 @@
 use Rattle.std.proofs.Common.{sym, ◌∙◌}
-use Rattle.accesses.proofs.Visits.{again, taken, visit}
+use Rattle.accesses.proofs.Visits.{again, given_once, taken, visit}
 use Rattle.accesses.proofs.runs.visit.Goals as goal
 
 pub unwrap-requires : goal.unwrap-requires
@@ -16,3 +16,6 @@ returns g c =
     let stays = c.confirm.ensures.after ∙ again door given c.admit-2.new.self.gate c.args.arm c.unwrap_err.result (sym c.admit-2.ensures.answer ∙ c.unwrap_err.ensures) c.admit-2.ensures.after in
     visit door c.args.gate.now.gate c.confirm.new.self.gate c.leave.new.self.gate c.args.arm c.unwrap-pass.result c.confirm.result.0 c.requires (sym c.admit.ensures.answer ∙ c.unwrap-pass.ensures)
     c.confirm.ensures.same (stays ∙ c.admit.ensures.after) c.leave.ensures.after
+
+pub unwrap_err-requires : goal.unwrap_err-requires
+unwrap_err-requires g c = given_once g.D.Door.table c.args.gate.now.gate c.admit.new.self.gate c.args.arm c.admit.result c.unwrap-pass.result c.admit-2.result c.requires c.admit.ensures.answer c.unwrap-pass.ensures c.admit.ensures.known c.admit-2.ensures.answer

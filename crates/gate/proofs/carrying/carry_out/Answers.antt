@@ -3,10 +3,12 @@ use Rattle.std.proofs.lemmas.List.{take_all}
 use Rattle.door.specs.Calls.{run, after}
 use Rattle.door.specs.Law.{Fair}
 use Rattle.door.specs.States.{made}
+use Rattle.door.specs.Turns.{TurnsTold}
 use Rattle.door.specs.declared.call.Call.TheVariants.{Begin}
 use Rattle.door.proofs.Origins.{run_more}
 use Rattle.door.proofs.Runs.{run_memory}
 use Rattle.door.proofs.Fairness.{fair, passing}
+use Rattle.door.proofs.Turns.{turns_told}
 use Rattle.gate.proofs.carrying.carry_out.Goals as goal
 
 pub loop-call-preserved : goal.loop-call-preserved
@@ -31,4 +33,5 @@ returns g c =
       law = subst (Fair door start c.args.calls.now) (sym e) (fair door met.phased met.rules met.way (bank.memory c.args.bank) bank.HIGHEST c.args.number c.args.wanted (bank.values c.args.bank) c.args.calls.now);
       rules = met.rules;
       bound = passing door met.phased met.rules;
+      turns = subst (TurnsTold door start c.args.calls.now) (sym e) (turns_told door met.phased met.rules met.bits (bank.memory c.args.bank) bank.HIGHEST c.args.number c.args.wanted (bank.values c.args.bank) c.args.calls.now);
     }
