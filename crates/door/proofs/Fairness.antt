@@ -9,7 +9,7 @@ use Rattle.door.specs.States.{State, made, is_arm, arm_at}
 use Rattle.door.specs.Calls.{after, run, refusal_of, answered, has_way, way_answer}
 use Rattle.door.specs.History.{goes_inside, GoesInside, is_in, Waits, RightOfWay, entries_since, idle_then}
 use Rattle.door.specs.Rules.{Phased, Always, ShowsRules}
-use Rattle.door.specs.Law.{OnceIfIdle, RowCounts, NotesTell, PassingBound, ShowsWay, Fair, Law, Origin, IsReached, Tells}
+use Rattle.door.specs.Law.{OnceIfIdle, RowCounts, NotesTell, AllInside, PassingBound, ShowsWay, Fair, Law, Origin, IsReached, Tells}
 use Rattle.door.specs.declared.call.Call.{Call}
 use Rattle.door.specs.declared.call.Call.TheVariants.{Way}
 use Rattle.door.specs.declared.phase.Phase.TheVariants as P
@@ -109,11 +109,17 @@ module _ {At : Type 0} (door : Table At) (phased : Phased door) (rules : ShowsRu
   pub law : (s : State At) → Law door s
   law s memory high number wanted regs past e = subst (Fair door (made door memory high number wanted regs) past) e (fair memory high number wanted regs past)
 
-  -- what way answers of a waiting arm, of a state that calls lead to: whether it goes inside is decided, so any origin will do
+  -- of a state that calls lead to: whether an arm goes inside is decided, so any origin will do
   decided : (w : ℕ) (s : State At) (cs : List Call) → GoesInside door w s cs ⊎ ¬ (GoesInside door w s cs)
   decided w s [] = inr (λ h. h)
   decided w s (c ∷ cs) = let x = decided w (after door s c) cs in let y = test (goes_inside door w s c) in grind arith
 
+  -- every waiting arm does
+  pub all_inside : (s : State At) → IsReached door s → AllInside door s
+  all_inside s reached w wait cs rounds =
+      ⊎_elim (λ g. g) (λ n. absurd (not_there reached (λ p. n ((law s p.memory p.high p.number p.wanted p.regs p.calls p.leads).rounds w wait cs rounds)))) (decided w s cs)
+
+  -- what way answers of a waiting arm
   pub tells : (s : State At) (w : ℕ) → IsReached door s → Tells door s w (way_answer door s w)
   tells s w reached wait =
       let told : Origin door s → (T (has_way door s w) ↔ RightOfWay door s w) = λ p. (law s p.memory p.high p.number p.wanted p.regs p.calls p.leads).told w wait in

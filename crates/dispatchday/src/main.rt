@@ -1,0 +1,66 @@
+//! A day at a plant, by a host of the dispatcher: arms that are asked for wait in one ring, readings that were delivered in another.
+//! It prints the readings in the order in which they came, and what the full rings lost; of a day through each door.
+#![tactic(auto)]
+
+// What the plant asks for, and what its probes show.
+mod plant;
+// The host, with a dispatcher.
+mod host;
+
+use crate::host::day;
+use crate::plant::Lost;
+use bank::ByteBank;
+use dispatcher::{Dispatcher, Reading};
+use doors::{FourValued, ThreeBits};
+use ring::Ring;
+
+// The gate's number.
+const NUMBER: u16 = 7;
+
+const ARMS: usize = 6;
+
+// The registers of the plant's arms, and those that they take at the four-valued door.
+const REGISTERS: usize = 3 * ARMS + 1;
+
+const REGISTERS_FOUR_VALUED: usize = ARMS + 1;
+
+// How many arms wait to be begun at most, and how many readings to be sent.
+const ASKED: usize = 4;
+
+const READINGS: usize = 24;
+
+const NO_READING: Reading = Reading { arm: 0, tenths: 0 };
+
+// Takes the readings out, in the order in which they were delivered.
+fn show(rt: &HostRuntime, readings: &mut Ring<Reading>, lost: Lost) -> anyhow::Result<()> {
+    let count = readings.len();
+    let Lost {
+        arms,
+        readings: missed,
+    } = lost;
+    println!(rt; "readings {count} lost {missed} asks lost {arms}")?;
+    for _ in 0..count {
+        if let Some(Reading { arm, tenths }) = readings.take() {
+            println!(rt; "arm {arm} tenths {tenths}")?;
+        }
+    }
+    Ok(())
+}
+
+fn main(rt: HostRuntime) -> anyhow::Result<()> {
+    println!(rt; "through the three-bit door")?;
+    let (mut asked, mut delivered) = ([0; ASKED], [NO_READING; READINGS]);
+    let mut readings = Ring::over(&mut delivered);
+    let mut registers = [0u8; REGISTERS];
+    let bank = ByteBank::new(&mut registers as &mut [u8]);
+    let mut dispatcher = Dispatcher::<_, ThreeBits>::new(bank, NUMBER, ARMS);
+    let lost = day(&mut dispatcher, &mut Ring::over(&mut asked), &mut readings);
+    show(&rt, &mut readings, lost)?;
+
+    println!(rt; "through the four-valued door")?;
+    let mut registers = [0u8; REGISTERS_FOUR_VALUED];
+    let bank = ByteBank::new(&mut registers as &mut [u8]);
+    let mut dispatcher = Dispatcher::<_, FourValued>::new(bank, NUMBER, ARMS);
+    let lost = day(&mut dispatcher, &mut Ring::over(&mut asked), &mut readings);
+    show(&rt, &mut readings, lost)
+}

@@ -1,0 +1,39 @@
+-- The head of the ring, and the calls of a move put together.
+use Rattle.std.proofs.Common.{◌≡◌, ℕ, true, cond, List, [], ◌∷◌, ◌++◌, append-nil, Some, None, Ok, Result, sym, ap, ◌∙◌, subst, arith}
+use Rattle.door.specs.Calls.{after, run}
+use Rattle.door.specs.States.{State}
+use Rattle.door.specs.Table.{Table}
+use Rattle.door.specs.declared.call.Call.TheVariants.{Step, Admit, Leave}
+use Rattle.door.specs.declared.refusal.Refusal.{Refusal}
+use Rattle.door.proofs.Origins.{run_append}
+use Rattle.gate.specs.Answers.{admit_answer}
+use Rattle.gate.specs.declared.pass.Pass.{Pass}
+use Rattle.dispatcher.specs.Dispatchers.{Dispatch}
+use Rattle.dispatcher.specs.Moves.{opening, is_inside, first_busy, serving, serving_any, opened, in_line, last_after, moved}
+
+module _ {At : Type 0} (door : Table At) where
+  -- an arm inside is served
+  pub served_inside : (s t u : State At) (i : ℕ) (pass : Pass) (answer : Result Pass Refusal) → is_inside door s i ≡ true
+      → answer ≡ admit_answer door s i → t ≡ after door s (Admit i) → answer ≡ Ok pass → u ≡ after door t (Leave pass.gate pass.arm) → u ≡ run door s (serving door s i)
+  served_inside s t u i pass answer inside told t_is ok u_is =
+      let own : (pass.gate ≡ s.number) × (pass.arm ≡ i) = grind arith in
+      u_is ∙ ap (λ v. after door v (Leave pass.gate pass.arm)) t_is ∙ ap (λ n. after door (after door s (Admit i)) (Leave n pass.arm)) own.0 ∙ ap (λ k. after door (after door s (Admit i)) (Leave s.number k)) own.1
+      ∙ ap (λ b. run door s (cond b (Admit i ∷ Leave s.number i ∷ []) (Step i ∷ []))) (sym inside)
+
+  -- a move in which all arms are idle, and one that serves an arm
+  pub idle_move : (d : Dispatch At) (asked : List ℕ) (s : State At) → s ≡ run door d.gate (opening asked) → first_busy door s d.last ≡ None
+      → ◌≡◌ {A = Dispatch At} (record { gate = s; last = d.last }) (moved door d asked)
+  idle_move d asked s s_is none =
+      let now = opened door d asked in
+      let e : in_line door d asked ≡ None = subst (λ t. first_busy door t d.last ≡ None) s_is none in
+      ap (λ t. record { gate = t; last = d.last }) s_is
+      ∙ sym (ap (λ o. record { gate = run door d.gate (opening asked ++ serving_any door now o); last = last_after d.last o }) e
+      ∙ ap (λ cs. record { gate = run door d.gate cs; last = d.last }) (append-nil (opening asked)))
+
+  pub served_move : (d : Dispatch At) (asked : List ℕ) (s t : State At) (i : ℕ) → s ≡ run door d.gate (opening asked) → first_busy door s d.last ≡ Some i → t ≡ run door s (serving door s i)
+      → ◌≡◌ {A = Dispatch At} (record { gate = t; last = i }) (moved door d asked)
+  served_move d asked s t i s_is some t_is =
+      let now = opened door d asked in
+      let e : in_line door d asked ≡ Some i = subst (λ v. first_busy door v d.last ≡ Some i) s_is some in
+      ap (λ v. record { gate = v; last = i }) (t_is ∙ ap (λ v. run door v (serving door v i)) s_is ∙ sym (run_append door (opening asked) (serving door now i) d.gate))
+      ∙ sym (ap (λ o. record { gate = run door d.gate (opening asked ++ serving_any door now o); last = last_after d.last o }) e)

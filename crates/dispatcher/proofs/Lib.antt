@@ -1,0 +1,9 @@
+-- what a call leaves of other arms: their marks, and that they are not idle
+mod Spent
+mod Busy
+-- who is next
+mod Order
+-- a move serves an arm, n moves serve all, and so a waiting arm goes inside
+mod Served
+-- the head of the ring, and a move put together
+mod Heads

@@ -1,0 +1,15 @@
+use Rattle.std.proofs.Common.{arith}
+use Rattle.door.proofs.Origins.{reached_made}
+use Rattle.dispatcher.proofs.Spent.{started_spent}
+use Rattle.dispatcher.proofs.dispatcher.Dispatcher.new.Goals as goal
+
+pub invariant_of-result : goal.invariant_of-result
+invariant_of-result g c =
+    let table = g.D.Door.table in
+    let memory = g.B.Bank.memory c.args.bank in
+    let regs = g.B.Bank.values c.args.bank in
+    record {
+      within = omega arith;
+      spent = rw c.make.ensures (started_spent table memory g.B.Bank.HIGHEST c.args.number c.args.wanted regs);
+      reached = reached_made table memory g.B.Bank.HIGHEST c.args.number c.args.wanted regs c.make.result c.make.ensures;
+    }

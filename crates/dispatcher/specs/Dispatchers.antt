@@ -1,0 +1,25 @@
+-- A dispatcher, and what holds of every dispatcher in hand.
+use Rattle.std.specs.Prelude.{◌≡◌, ℕ, ◌≤◌, false, List}
+use Rattle.door.specs.Law.{IsReached}
+use Rattle.door.specs.States.{State, made, arm_at}
+use Rattle.door.specs.Table.{Table}
+
+-- gate: the state of its gate; last: the arm that it served last, 0 at first
+pub record Dispatch (At : Type 0) : Type 0 where
+  pub gate : State At
+  pub last : ℕ
+
+module _ {At : Type 0} (door : Table At) where
+  -- a dispatcher just made
+  abbrev pub started : ℕ → ℕ → ℕ → ℕ → List ℕ → Dispatch At
+  started memory high number wanted regs = record { gate = made door memory high number wanted regs; last = 0 }
+
+  -- no pass is out
+  abbrev pub NoPassOut : State At → Type 0
+  NoPassOut s = (i : ℕ) → (arm_at door s i).out ≡ false
+
+-- it served one of its arms last, no pass is out between two moves, and only a making and calls lead to its gate
+pub record IsDispatcher {At : Type 0} (door : Table At) (d : Dispatch At) : Type 0 where
+  pub within : d.last ≤ d.gate.n
+  pub spent : NoPassOut door d.gate
+  pub reached : IsReached door d.gate

@@ -1,0 +1,38 @@
+-- What a dispatcher's moves do for its arms, whatever each move is asked for.
+use Rattle.std.specs.Prelude.{◌≡◌, ℕ, ◌+◌, ◌*◌, List, [], ◌∷◌, ◌++◌, length}
+use Rattle.door.specs.Calls.{run}
+use Rattle.door.specs.History.{Waits, GoesInside, Round}
+use Rattle.door.specs.Table.{Table}
+use Rattle.door.specs.declared.call.Call.{Call}
+use Rattle.dispatcher.specs.Dispatchers.{Dispatch}
+use Rattle.dispatcher.specs.Moves.{calls_of, moved}
+
+module _ {At : Type 0} (door : Table At) where
+  -- moves that get rings of these arms, one after another: where they lead
+  abbrev pub moves : Dispatch At → List (List ℕ) → Dispatch At
+  moves d [] = d
+  moves d (asked ∷ more) = moves (moved door d asked) more
+
+  -- and by which calls
+  abbrev pub calls_of_moves : Dispatch At → List (List ℕ) → List Call
+  calls_of_moves d [] = []
+  calls_of_moves d (asked ∷ more) = calls_of door d asked ++ calls_of_moves (moved door d asked) more
+
+  -- moves do nothing but these calls to the gate
+  abbrev pub OnlyCalls : Dispatch At → Type 0
+  OnlyCalls d = (rings : List (List ℕ)) → (moves d rings).gate ≡ run door d.gate (calls_of_moves d rings)
+
+  -- n moves are a round: they serve every arm that is not idle at their start
+  abbrev pub AllServed : Dispatch At → Type 0
+  AllServed d = (rings : List (List ℕ)) → length rings ≡ d.gate.n → Round door d.gate (calls_of_moves d rings)
+
+  -- a waiting arm goes inside at some call made by one of the next n (50 n + 10) moves
+  abbrev pub InsideByMoves : Dispatch At → Type 0
+  InsideByMoves d = (w : ℕ) → Waits door d.gate w → (rings : List (List ℕ)) → length rings ≡ d.gate.n * (50 * d.gate.n + 10)
+      → GoesInside door w d.gate (calls_of_moves d rings)
+
+-- the law of moves, of any dispatcher in hand
+pub record LawOfMoves {At : Type 0} (door : Table At) (d : Dispatch At) : Type 0 where
+  pub calls : OnlyCalls door d
+  pub served : AllServed door d
+  pub inside : InsideByMoves door d

@@ -1,0 +1,3 @@
+pub mod Dispatchers
+pub mod Moves
+pub mod Law

@@ -1,0 +1,56 @@
+ghost use Rattle.std.specs.Prelude.{◌≡◌};
+ghost use Rattle.dispatcher.specs.Dispatchers.{NoPassOut, started};
+ghost use Rattle.dispatcher.specs.Law.{LawOfMoves};
+
+use bank::Bank;
+use doors::Door;
+use gate::Gate;
+use std::marker::Model;
+
+/// Steps the arms of a gate, one move a call. It owns its gate; the passes that a move takes are spent within the move.
+#[derive(Drop)]
+pub struct Dispatcher<B: Bank, D: Door> {
+    pub(crate) gate: Gate<B, D>,
+    pub(crate) last: usize,
+}
+
+// Clauses see a dispatcher as the state of its gate and the arm served last.
+impl<B: Bank, D: Door> Model for Dispatcher<B, D> {
+    ghost use Rattle.dispatcher.specs.Dispatchers.{Dispatch, IsDispatcher};
+
+    ghost Value = { Dispatch D };
+
+    ghost view = { λ d. record { gate = d.gate; last = d.last } };
+
+    ghost invariant = { λ d. IsDispatcher D.table (record { gate = d.gate; last = d.last }) };
+}
+
+impl<B: Bank, D: Door> Dispatcher<B, D> {
+    /// A dispatcher with a gate of its own over a bank; with the wanted arm count, or as many as the door has room for there, 32 at most.
+    /// It cannot be refused.
+    pub fn new(bank: B, number: u16, wanted: usize) -> Dispatcher<B, D>
+        ensures { result ≡ started D.table (B.memory bank) B.HIGHEST number wanted (B.values bank) }
+    {
+        Dispatcher {
+            gate: Gate::<B, D>::make(bank, number, wanted),
+            last: 0,
+        }
+    }
+
+    /// The gate, to look at: every call on it that alters nothing can be made.
+    pub fn gate(&self) -> &Gate<B, D>
+        ensures gate { result.now ≡ self.now.gate }
+        ensures law { LawOfMoves D.table self.now }
+    {
+        &self.gate
+    }
+
+    /// Ends the dispatcher and hands its gate over as it stands, with no pass out.
+    pub fn stop(self) -> Gate<B, D>
+        ensures gate { result ≡ self.gate }
+        ensures spent { NoPassOut D.table result }
+    {
+        let Dispatcher { gate, last: _ } = self;
+        gate
+    }
+}

@@ -1,0 +1,13 @@
+-- When a ring says no, and by which number.
+use Rattle.std.specs.Prelude.{ℕ, if◌then◌else◌, List, Ok, Err, Result}
+use Rattle.ring.specs.Spans.{has_room}
+use Rattle.ring.specs.declared.refusal.Refusal.{Refusal}
+use Rattle.ring.specs.declared.refusal.Refusal.TheVariants.{RingFull}
+use Rattle.ring.specs.declared.span.Span.{Span}
+
+abbrev pub refusal_number : Refusal → ℕ
+refusal_number RingFull = 17
+
+-- what put answers
+abbrev pub put_answer : {X : Type 0} → Span → List X → Result (Unit {0}) Refusal
+put_answer s slots = if has_room s slots then Ok tt else Err RingFull
