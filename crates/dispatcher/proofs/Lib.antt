@@ -5,5 +5,5 @@ mod Busy
 mod Order
 -- a move serves an arm, n moves serve all, and so a waiting arm goes inside
 mod Served
--- the head of the ring, and a move put together
-mod Heads
+-- the calls of a move, put together
+mod Together

@@ -1,5 +1,5 @@
 use Rattle.std.proofs.Common.{sym, ◌∙◌}
-use Rattle.dispatcher.proofs.Heads.{served_inside}
+use Rattle.dispatcher.proofs.Together.{served_inside}
 use Rattle.dispatcher.proofs.moves.serve.Goals as goal
 
 pub returns-then-is_inside : goal.returns-then-is_inside

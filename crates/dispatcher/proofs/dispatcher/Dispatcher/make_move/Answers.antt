@@ -3,7 +3,7 @@ use Rattle.door.proofs.Bools.{is_true}
 use Rattle.ring.specs.Rings.{items}
 use Rattle.dispatcher.specs.Dispatchers.{Dispatch, NoPassOut}
 use Rattle.dispatcher.specs.Moves.{is_busy, in_turn}
-use Rattle.dispatcher.proofs.Heads.{idle_move, served_move}
+use Rattle.dispatcher.proofs.Together.{idle_move, served_move}
 use Rattle.dispatcher.proofs.Order.{found_yes}
 use Rattle.dispatcher.proofs.Served.{led, law_of_moves}
 use Rattle.dispatcher.proofs.Spent.{opening_spent}

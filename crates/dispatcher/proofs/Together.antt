@@ -1,4 +1,4 @@
--- The head of the ring, and the calls of a move put together.
+-- The calls of a move, put together.
 use Rattle.std.proofs.Common.{◌≡◌, ℕ, true, cond, List, [], ◌∷◌, ◌++◌, append-nil, Some, None, Ok, Result, sym, ap, ◌∙◌, subst, arith}
 use Rattle.door.specs.Calls.{after, run}
 use Rattle.door.specs.States.{State}
