@@ -6,13 +6,17 @@ of positions and from the words of docs/GATE.md; nothing is shared with the crat
 """
 import os
 
-from plant_files import FourValuedGate, Gate
+from plant_files import ARM_LIMIT, FourValuedGate, Gate
 
 HERE = os.path.join(os.path.dirname(os.path.abspath(__file__)), "..", "crates", "accesses")
 
 KINDS = ("begin", "step", "admit", "confirm", "leave", "look", "tally", "most_passed", "way", "bit", "same")
 
 TURNS = 20000
+MORE_TURNS = 60000
+
+# The registers of the most arms at the three-bit door.
+REGISTERS = 3 * ARM_LIMIT + 1
 
 
 class FirstDoor(Gate):
@@ -198,7 +202,7 @@ def refused(door, n, turns):
 
 def making(door, registers, wanted):
     """Counts down from the wanted arms, and reads the last register of each count until one is there."""
-    n, cost = min(wanted, 32), Cost()
+    n, cost = min(wanted, ARM_LIMIT), Cost()
     reads = 0
     while n > 0:
         reads += 1
@@ -214,15 +218,15 @@ def runs(door, makings):
     watched = Watched(door, 0)
     watch(watched, 1, 1)
     text += "no arms\n%s" % watched.book
-    for n in (1, 3, 32):
-        text += "arms %d turns %d\n%s" % (n, TURNS, lively(door, n, TURNS))
-        text += "arms %d turns %d with calls that are refused\n%s" % (n, TURNS, refused(door, n, TURNS))
+    for n, turns in ((1, TURNS), (3, TURNS), (32, TURNS), (ARM_LIMIT, MORE_TURNS)):
+        text += "arms %d turns %d\n%s" % (n, turns, lively(door, n, turns))
+        text += "arms %d turns %d with calls that are refused\n%s" % (n, turns, refused(door, n, turns))
     return text
 
 
 def main():
-    first = ((97, 1), (97, 3), (97, 32), (97, 1000), (10, 32), (3, 32))
-    second = first + ((1, 32),)
+    first = ((REGISTERS, 1), (REGISTERS, 3), (REGISTERS, ARM_LIMIT), (REGISTERS, 1000), (10, ARM_LIMIT), (3, ARM_LIMIT))
+    second = first + ((1, ARM_LIMIT),)
     with open(os.path.join(HERE, "stdout"), "w") as out:
         out.write("%sthrough the four-valued door\n%s" % (runs(FirstDoor, first), runs(SecondDoor, second)))
 

@@ -9,6 +9,10 @@ import random
 
 HERE = os.path.join(os.path.dirname(os.path.abspath(__file__)), "..", "crates", "edges")
 
+# How many arms a gate has at most, and the least memory for a report.
+ARM_LIMIT = 100
+REPORT_ROOM = 4096
+
 
 class Gate:
     """The three-bit door, by its table of positions."""
@@ -170,7 +174,7 @@ def parse(data):
                 return None, fault(12, at, count, "number")
             value, after = value - 128 + 128 * data[after], after + 1
         if count == 0:
-            if not 1 <= value <= 32:
+            if not 1 <= value <= ARM_LIMIT:
                 return None, fault(14, 0, 0, "schedule")
             arms = value
         elif value % 4 == 3:
@@ -197,15 +201,15 @@ def play(data, kind=Gate):
     return text
 
 
-def wild(seed, arms, size, favourites):
-    """Orders as an unfair host gives them, until the file would pass a size."""
+def wild(seed, arms, size, favourites, beyond=40):
+    """Orders as an unfair host gives them, some for arms up to `beyond`, until the file would pass a size."""
     rng, orders, gate = random.Random(seed), [], Gate(arms)
     total = len(number(arms))
     while True:
         arm = rng.choice(favourites) if rng.random() < 0.7 else rng.randint(1, arms)
         kind = {"I": 0, "F": 2}.get(gate.phase(arm), 1)
         if rng.random() < 0.02:
-            kind, arm = rng.randint(0, 2), rng.randint(0, 40)
+            kind, arm = rng.randint(0, 2), rng.randint(0, beyond)
         more = len(number(4 * arm + kind))
         if total + more > size:
             return orders, total
@@ -214,9 +218,9 @@ def wild(seed, arms, size, favourites):
         orders.append((kind, arm))
 
 
-def exactly(seed, arms, size):
+def exactly(seed, arms, size, favourites=(1, 2), beyond=40):
     """A file of just this many bytes: filled up with steps of arm 1, a byte each."""
-    orders, total = wild(seed, arms, size, [1, 2])
+    orders, total = wild(seed, arms, size, favourites, beyond)
     return file_of(arms, orders + [(1, 1)] * (size - total))
 
 
@@ -255,8 +259,10 @@ FILES = [
     ("two_arms", SAMPLE),
     ("second_entry", past_a_waiting_arm()),
     ("hall_of_32", file_of(32, wild(1, 32, 20000, [3, 17, 32])[0])),
+    ("hall_of_100", file_of(100, wild(5, 100, 40000, [3, 50, 100], 110)[0])),
     ("quiet_row", file_of(32, wild(2, 32, 30000, list(range(1, 33)))[0])),
     ("as_long_as_can_be", exactly(3, 5, 60000)),
+    ("as_long_with_100_arms", exactly(6, 100, 60000, [1, 99, 100], 110)),
     ("too_long", exactly(4, 5, 60001)),
     ("no_orders", bytes([32])),
     ("arm_not_there", bytes([2, 0x0C])),
@@ -269,14 +275,15 @@ FILES = [
     ("large_at_once", bytes([0xFF, 0xFF])),
     ("large_later", bytes([2, 4, 5, 0xFF, 0x80, 1])),
     ("no_arms", bytes([0])),
-    ("too_many_arms", bytes([33])),
+    ("more_than_32_arms", bytes([33])),
+    ("too_many_arms", bytes([ARM_LIMIT + 1])),
     ("unknown_order", bytes([2, 7])),
     ("unknown_order_later", bytes([2, 4, 0x87, 1])),
 ]
 
 
 # How many edge cases the crate proves.
-EDGE_CASES = 50
+EDGE_CASES = 64
 
 # The file that the program plays through the four-valued door.
 TWICE_PAST = past_a_waiting_arm(FourValuedGate)
@@ -292,7 +299,7 @@ def main():
         short = "9" if len(data) > 60000 else "10"
         shown += "%s: %d bytes\n%s" % (name, len(data), text)
         again = "none" if text.startswith("fault") else "same"
-        shown += "over bytes: same\nmemory of 1023: %s\nwritten again: %s\n" % (short, again)
+        shown += "over bytes: same\nmemory of %d: %s\nwritten again: %s\n" % (REPORT_ROOM - 1, short, again)
     shown += "through the four-valued door: %d bytes\n%s" % (len(TWICE_PAST), play(TWICE_PAST, FourValuedGate))
     with open(os.path.join(HERE, "stdout"), "w") as out:
         out.write(shown)

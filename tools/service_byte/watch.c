@@ -111,7 +111,7 @@ int main(int count, char **words) {
 
     handle(SIGSEGV, on_touch);
     handle(SIGTRAP, after_touch);
-    size_t written = play_file(seen[FILE_BYTES], length, seen[REGISTERS], 97, seen[MEMORY], 1024, seen[SERVICE]);
+    size_t written = play_file(seen[FILE_BYTES], length, seen[REGISTERS], 301, seen[MEMORY], 4096, seen[SERVICE]);
     signal(SIGSEGV, SIG_DFL);
 
     printf("stored");

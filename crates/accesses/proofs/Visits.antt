@@ -26,6 +26,10 @@ module _ {At : Type 0} (door : Table At) where
   pub again : (s t : State At) (i : ℕ) (e : Refusal) → admit_answer door s i ≡ Err e → t ≡ after door s (Admit i) → t ≡ s
   again s t i e h is = is ∙ refused_stays (refusal_of door s (Admit i)) _ e _ s h
 
+  -- an arm that may not begin
+  pub not_begun : (s t : State At) (i : ℕ) (p : Phase) (e : Refusal) → answered (refusal_of door s (Begin i)) p ≡ Err e → t ≡ after door s (Begin i) → t ≡ s
+  not_begun s t i p e h is = is ∙ refused_stays (refusal_of door s (Begin i)) p e _ s h
+
   -- a pass that the gate does not know
   pub strange : (s t : State At) (pass : Pass) (back : HandedBack) → leave_answer door s pass ≡ Err back → t ≡ after door s (Leave pass.gate pass.arm) → (t ≡ s) × (back.pass ≡ pass)
   strange s t pass back h is = let x = handed_stays (refusal_of door s (Leave pass.gate pass.arm)) pass back _ s h in (is ∙ x.0, x.1)

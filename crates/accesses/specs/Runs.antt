@@ -1,11 +1,16 @@
 -- What the turns of a run do to a gate.
 use Rattle.std.specs.Prelude.{ℕ, zero, suc, ◌+◌, ◌*◌, ◌/◌, ◌%◌, ◌^◌}
+use Rattle.door.specs.Limits.{arm_limit}
 use Rattle.door.specs.Calls.{after, refusal_of, unless}
 use Rattle.door.specs.States.{State, phase_at}
 use Rattle.door.specs.Table.{Table}
 use Rattle.door.specs.declared.call.Call.TheVariants.{Begin as begin, Step as step, Admit as admit, Leave as leave}
 use Rattle.door.specs.declared.phase.Phase.{Phase}
 use Rattle.door.specs.declared.phase.Phase.TheVariants as P
+
+-- the registers of the most arms at the three-bit door; the four-valued one needs fewer
+abbrev pub register_count : ℕ
+register_count = 3 * arm_limit + 1
 
 -- the arm of a turn, of n arms; what lies below the highest 31 bits of a product is cut off
 abbrev pub arm_of : ℕ → ℕ → ℕ

@@ -4,8 +4,10 @@
 #![tactic(auto)]
 
 ghost use Rattle.std.specs.Prelude.{◌≡◌, ◌≤◌, replicate, IfOk};
+ghost use Rattle.door.specs.Limits.{arm_limit};
 ghost use Rattle.door.specs.Making.{arms_for};
 ghost use Rattle.door.specs.States.{made};
+ghost use Rattle.accesses.specs.Runs.{register_count};
 
 mod cost;
 mod counting_bank;
@@ -16,26 +18,36 @@ use crate::counting_bank::{Accesses, CountingBank};
 use crate::runs::{lively, refused, watch};
 use crate::watched::{Book, Watched};
 use bank::BitBank;
+use door::arm::ARM_LIMIT;
 use doors::{Door, FourValued, ThreeBits};
 use gate::Gate;
 use std::marker::PhantomData;
 use std::rc::Rc;
 
-// The registers of 32 arms; the four-valued door needs fewer.
-const REGISTERS: usize = 97;
+// The registers of the most arms; the four-valued door needs fewer.
+const REGISTERS: usize = 3 * ARM_LIMIT + 1;
 
 // The number of the gates that are watched, and that of the gate whose passes are strange to them.
 const NUMBER: u16 = 1;
 
 const OTHER_NUMBER: u16 = 2;
 
-// How long a run is.
+// How long a run is, and one of the most arms.
 const TURNS: u64 = 20_000;
 
-// The makings that are watched, by registers and wanted arms, and one more at the four-valued door, where 3 registers have room for two arms.
-const MAKINGS: [(usize, usize); 6] = [(97, 1), (97, 3), (97, 32), (97, 1000), (10, 32), (3, 32)];
+const MORE_TURNS: u64 = 60_000;
 
-const MAKING_FOUR_VALUED: (usize, usize) = (1, 32);
+// The makings that are watched, by registers and wanted arms, and one more at the four-valued door, where 3 registers have room for two arms.
+const MAKINGS: [(usize, usize); 6] = [
+    (REGISTERS, 1),
+    (REGISTERS, 3),
+    (REGISTERS, ARM_LIMIT),
+    (REGISTERS, 1000),
+    (10, ARM_LIMIT),
+    (3, ARM_LIMIT),
+];
+
+const MAKING_FOUR_VALUED: (usize, usize) = (1, ARM_LIMIT);
 
 // The kind of gate that is watched. Where the door is left open, a function that makes such a gate names its kind in its header,
 // since nothing else says that it is not larger than memory.
@@ -118,37 +130,44 @@ fn show(rt: &HostRuntime, book: Book) -> anyhow::Result<()> {
 // What the calls that only watch cost on a gate with no arms.
 fn show_no_arms<D: Door>(rt: &HostRuntime, _kind: Kind<D>) -> anyhow::Result<()> {
     println!(rt; "no arms")?;
-    let mut gate = gate_over::<D>(rt, 1, 32)?;
+    let mut gate = gate_over::<D>(rt, 1, ARM_LIMIT)?;
     watch(&mut gate, 1, 1);
     show(rt, gate.book())
 }
 
 // What the calls cost in a lively run of so many arms, and in one with calls that are refused.
-fn show_runs<D: Door>(rt: &HostRuntime, arms: usize, _kind: Kind<D>) -> anyhow::Result<()>
+fn show_runs<D: Door>(
+    rt: &HostRuntime,
+    arms: usize,
+    turns: u64,
+    _kind: Kind<D>,
+) -> anyhow::Result<()>
     requires some { 1 ≤ arms }
-    requires room { arms_for D.table 255 97 arms ≡ arms }
+    requires room { arms_for D.table 255 register_count arms ≡ arms }
 {
-    println!(rt; "arms {arms} turns {TURNS}")?;
+    println!(rt; "arms {arms} turns {turns}")?;
     let mut gate = gate_over::<D>(rt, REGISTERS, arms)?;
-    lively(&mut gate, TURNS);
+    lively(&mut gate, turns);
     show(rt, gate.book())?;
-    println!(rt; "arms {arms} turns {TURNS} with calls that are refused")?;
+    println!(rt; "arms {arms} turns {turns} with calls that are refused")?;
     let mut gate = gate_over::<D>(rt, REGISTERS, arms)?;
     let mut other = other_gate();
-    refused(&mut gate, &mut other, TURNS);
+    refused(&mut gate, &mut other, turns);
     show(rt, gate.book())
 }
 
 // What all calls cost through one door.
 fn show_door<D: Door>(rt: &HostRuntime, kind: Kind<D>) -> anyhow::Result<()>
-    requires one { arms_for D.table 255 97 1 ≡ 1 }
-    requires three { arms_for D.table 255 97 3 ≡ 3 }
-    requires all { arms_for D.table 255 97 32 ≡ 32 }
+    requires one { arms_for D.table 255 register_count 1 ≡ 1 }
+    requires three { arms_for D.table 255 register_count 3 ≡ 3 }
+    requires many { arms_for D.table 255 register_count 32 ≡ 32 }
+    requires most { arms_for D.table 255 register_count arm_limit ≡ arm_limit }
 {
     show_no_arms(rt, kind)?;
-    show_runs(rt, 1, kind)?;
-    show_runs(rt, 3, kind)?;
-    show_runs(rt, 32, kind)
+    show_runs(rt, 1, TURNS, kind)?;
+    show_runs(rt, 3, TURNS, kind)?;
+    show_runs(rt, 32, TURNS, kind)?;
+    show_runs(rt, ARM_LIMIT, MORE_TURNS, kind)
 }
 
 #[tactic(auto, unfolding(door::specs::Making::largest))]

@@ -26,7 +26,7 @@ impl<B: Bank, D: Door> Model for Dispatcher<B, D> {
 }
 
 impl<B: Bank, D: Door> Dispatcher<B, D> {
-    /// A dispatcher with a gate of its own over a bank; with the wanted arm count, or as many as the door has room for there, 32 at most.
+    /// A dispatcher with a gate of its own over a bank; with the wanted arm count, or as many as the door has room for there, up to the limit of a gate.
     /// It cannot be refused.
     pub fn new(bank: B, number: u16, wanted: usize) -> Dispatcher<B, D>
         ensures { result ≡ started D.table (B.memory bank) B.HIGHEST number wanted (B.values bank) }

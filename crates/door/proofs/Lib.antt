@@ -23,3 +23,5 @@ pub mod Fairness
 pub mod Bounds
 pub mod Turns
 pub mod Makeable
+-- gates over unlike banks that go the same way
+pub mod Twins

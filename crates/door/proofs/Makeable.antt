@@ -17,24 +17,35 @@ use Rattle.door.proofs.Bools.{test, clash, is_true}
 use Rattle.door.proofs.Rooms.{arms_fit, length_cleared}
 use Rattle.door.proofs.Runs.{run_n, run_high, run_regs}
 
-module _ {At : Type 0} (door : Table At) (shown : ShowsAccesses door) where
+module _ {At : Type 0} (door : Table At) where
   made_length : (n : ℕ) (regs : List ℕ) → door.room n ≤ length regs → length (made_regs door n regs) ≡ length regs
   made_length n regs h = cond_both (eqb n 0) regs (cleared door (door.room n) regs) (λ rs. length rs ≡ length regs) (λ _. refl) (λ _. length_cleared door (door.room n) regs h)
+
+  -- a gate with arms has the registers that they take, with the values that they need
+  pub has_room : (s : State At) → Origin door s → 1 ≤ s.n → (door.room s.n ≤ length s.regs) × (door.needed ≤ s.high)
+  has_room s p some =
+      let start : State At = made door p.memory p.high p.number p.wanted p.regs in
+      let size : s.n ≡ start.n = sym (ap (λ t. t.n) p.leads) ∙ run_n door p.calls start in
+      let high : s.high ≡ p.high = sym (ap (λ t. t.high) p.leads) ∙ run_high door p.calls start in
+      let fit = arms_fit door p.high (length p.regs) p.wanted (omega arith) in
+      let len : length s.regs ≡ length p.regs = sym (ap (λ t. length t.regs) p.leads) ∙ (run_regs door p.calls start ∙ made_length start.n p.regs fit.0) in
+      (let x = fit.0 in subst (λ k. door.room k ≤ length s.regs) (sym size) (omega arith), let x = fit.1 in omega arith)
 
   in_room : (s : State At) (a : Access) → door.room s.n ≤ length s.regs → door.needed ≤ s.high → InRoom door s.n a → T (can_make s a)
   in_room s a fits bits h = grind (arith, nat_tests)
 
-  from_origin : (s : State At) (i : ℕ) → Origin door s → refusal_of door s (step i) ≡ None → T (can_make s (access_at door s i))
-  from_origin s i p e =
-      let start : State At = made door p.memory p.high p.number p.wanted p.regs in
-      let r = known_arm s i (step_refusal (phase_at door s i)) e in
-      let size : s.n ≡ start.n = sym (ap (λ t. t.n) p.leads) ∙ run_n door p.calls start in
-      let high : s.high ≡ p.high = sym (ap (λ t. t.high) p.leads) ∙ run_high door p.calls start in
-      let fit = arms_fit door p.high (length p.regs) p.wanted (let x = r.0 in let y = r.1 in omega arith) in
-      let len : length s.regs ≡ length p.regs = sym (ap (λ t. length t.regs) p.leads) ∙ (run_regs door p.calls start ∙ made_length start.n p.regs fit.0) in
+module _ {At : Type 0} (door : Table At) (shown : ShowsAccesses door) where
+  -- an accepted step accesses one of them
+  pub accesses_one : (s : State At) (i : ℕ) → Origin door s → refusal_of door s (step i) ≡ None → InRoom door s.n (access_at door s i)
+  accesses_one s i p e =
       let yes : T (accepted door s (step i)) = subst (λ x. T (no_refusal x)) (sym e) tt in
-      let makes : InRoom door s.n (access_at door s i) = subst (λ t. T (accepted door t (step i)) → InRoom door t.n (access_at door t i)) p.leads (shown p.memory p.high p.number p.wanted p.regs p.calls i) yes in
-      in_room s (access_at door s i) (let x = fit.0 in subst (λ k. door.room k ≤ length s.regs) (sym size) (omega arith)) (let x = fit.1 in omega arith) makes
+      subst (λ t. T (accepted door t (step i)) → InRoom door t.n (access_at door t i)) p.leads (shown p.memory p.high p.number p.wanted p.regs p.calls i) yes
+
+  pub from_origin : (s : State At) (i : ℕ) → Origin door s → refusal_of door s (step i) ≡ None → T (can_make s (access_at door s i))
+  from_origin s i p e =
+      let r = known_arm s i (step_refusal (phase_at door s i)) e in
+      let room = has_room door s p (let x = r.0 in let y = r.1 in omega arith) in
+      in_room door s (access_at door s i) room.0 room.1 (accesses_one s i p e)
 
   pub makeable : (s : State At) (i : ℕ) → IsReached door s → refusal_of door s (step i) ≡ None → IsTrue (can_make s (access_at door s i))
   makeable s i reached e =

@@ -23,7 +23,7 @@ module _ {At : Type 0} (door : Table At) where
   unless_arms r x y x' y' new old = grind arith
 
   -- the records after a step that read v
-  abbrev arms_having_read : State At → ℕ → ℕ → List (Arm At)
+  abbrev pub arms_having_read : State At → ℕ → ℕ → List (Arm At)
   arms_having_read s i v =
       let arm = advanced door s.n v (arm_at door s i) in
       tallied door (i - 1) (phase_at door s i) (door.phase arm.position) (set s.arms (i - 1) arm)

@@ -1,5 +1,5 @@
 -- How many arms a bank has room for, and its registers when a gate is made.
-use Rattle.std.specs.Prelude.{ℕ, zero, suc, min, if◌then◌else◌, List, ◌++◌, drop, map, ◌==◌, nat_le, nat_lt}
+use Rattle.std.specs.Prelude.{ℕ, ◌<◌, ◌≤◌, zero, suc, min, if◌then◌else◌, List, ◌++◌, drop, map, ◌==◌, nat_le, nat_lt}
 use Rattle.std.specs.List.{range_with_len}
 use Rattle.door.specs.Limits.{arm_limit}
 use Rattle.door.specs.Table.{Table}
@@ -13,6 +13,14 @@ module _ {At : Type 0} (door : Table At) where
   -- the arm count of a gate over a bank of len registers, none above high
   abbrev pub arms_for : ℕ → ℕ → ℕ → ℕ
   arms_for high len wanted = if nat_lt high door.needed then 0 else largest len (min wanted arm_limit)
+
+  -- n arms are the most that there can be: no more than are wanted or than the limit, and they want no more than the bank has;
+  -- any larger count that is wanted wants more
+  pub record IsLargest (high len wanted n : ℕ) : Type 0 where
+    pub within : n ≤ wanted
+    pub few : n ≤ arm_limit
+    pub fits : 1 ≤ n → (door.room n ≤ len) × (door.needed ≤ high)
+    pub most : (k : ℕ) → n < k → k ≤ wanted → k ≤ arm_limit → door.needed ≤ high → len < door.room k
 
   -- the first k registers as making writes them
   abbrev pub cleared : ℕ → List ℕ → List ℕ

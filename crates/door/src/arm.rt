@@ -2,7 +2,7 @@ ghost use Rattle.std.specs.Prelude.{◌≡◌};
 ghost use Rattle.door.specs.Arms.{side_of, has_side};
 
 /// How many arms a gate has at most.
-pub const ARM_LIMIT: usize = 32;
+pub const ARM_LIMIT: usize = 100;
 
 /// What the gate keeps of one arm, at a position of its door. Arm i of a gate stands at place i - 1 of its table,
 /// and so do its count and its note in a row.

@@ -1,5 +1,6 @@
--- The edge cases of the four-valued door, over a bank of 33 bytes.
+-- The edge cases of the four-valued door, over a bank of as many bytes as the most arms take.
 use Rattle.std.specs.Prelude.{ℕ, true, List, [], ◌∷◌, replicate}
+use Rattle.door.specs.Limits.{arm_limit}
 use Rattle.door.specs.States.{State}
 use Rattle.door.specs.declared.call.Call.TheVariants.{Begin as begin, Way as way}
 use Rattle.four_valued.specs.Positions.{four_valued}
@@ -12,7 +13,7 @@ abbrev pub highest : ℕ
 highest = 255
 
 abbrev pub registers : List ℕ
-registers = replicate 33 9
+registers = replicate (four_valued.room arm_limit) 9
 
 abbrev pub gate_after : ℕ → List ℕ → State FourValued
 gate_after = C.gate_after four_valued highest registers
@@ -37,9 +38,12 @@ table =
     ∷ turned (gate_after 2 (two_arms 3)) 1
     ∷ turned (gate_after 3 (two_gone 3)) 1
     ∷ turned (gate_after 3 (turned_back 3 9)) 2
+    ∷ gives highest 101 120 100
+    ∷ gives highest 100 120 99
     ∷ gives highest 33 40 32
     ∷ gives highest 32 40 31
     ∷ gives highest 1 40 0
+    ∷ gives 3 101 120 100
     ∷ gives 3 33 40 32
     ∷ bars 2
     ∷ accepts (gate_visited 999999999) (begin 1)

@@ -35,7 +35,9 @@ table =
     ∷ fails (0xFF ∷ 0xFF ∷ []) 13 0 0 "number"
     ∷ fails [] 11 0 0 "number"
     ∷ opens (0x20 ∷ []) 32
-    ∷ fails (0x21 ∷ []) 14 0 0 "schedule"
+    ∷ opens (0x21 ∷ []) 33
+    ∷ opens (0x64 ∷ []) 100
+    ∷ fails (0x65 ∷ []) 14 0 0 "schedule"
     ∷ fails (0x00 ∷ []) 14 0 0 "schedule"
     ∷ fails (0x02 ∷ 0x07 ∷ []) 15 1 1 "schedule"
     ∷ fails (0x02 ∷ 0x04 ∷ 0x80 ∷ 0x00 ∷ []) 12 2 2 "number"
@@ -54,6 +56,9 @@ table =
     ∷ turned (gate_after 2 (two_arms 5)) 1
     ∷ turned (gate_after 3 (two_gone 5)) 1
     ∷ turned (gate_after 3 (turned_back 5 10)) 2
+    ∷ gives highest 301 120 100
+    ∷ gives highest 300 120 99
+    ∷ gives highest bit_registers 120 100
     ∷ gives highest 97 40 32
     ∷ gives highest 96 40 31
     ∷ gives highest 3 40 0

@@ -9,6 +9,7 @@ mod cases;
 use crate::cases::edge_cases;
 use anyhow::anyhow;
 use bank::{BitBank, ByteBank};
+use door::arm::ARM_LIMIT;
 use doors::{FourValued, ThreeBits};
 use play::{Played, REPORT_ROOM, fault_line, play};
 use schedule::{FILE_LIMIT, Order, read, write};
@@ -21,11 +22,11 @@ const SERVICE: u8 = 7;
 // One byte less than a report asks for.
 const TOO_LITTLE: usize = REPORT_ROOM - 1;
 
-// Registers for 32 arms of the three-bit door.
-const REGISTERS: usize = 97;
+// Registers for the most arms of the three-bit door.
+const REGISTERS: usize = 3 * ARM_LIMIT + 1;
 
-// Registers for 32 arms of the four-valued door: the group, and the state of each.
-const STATES_AND_GROUP: usize = 33;
+// Registers for the most arms of the four-valued door: the group, and the state of each.
+const STATES_AND_GROUP: usize = ARM_LIMIT + 1;
 
 // Three arms: 3 goes inside past 2, and 2 twice past 1, by the steps of the four-valued door.
 const TWICE_PAST: [u8; 42] = [

@@ -4,7 +4,7 @@ use door::arm::{ARM_LIMIT, Arm};
 use doors::Door;
 use std::marker::Model;
 
-/// Steps up to 32 arms towards a shared section, through a door. It owns its bank.
+/// Steps up to [`ARM_LIMIT`] arms towards a shared section, through a door. It owns its bank.
 #[derive(Drop)]
 pub struct Gate<B: Bank, D: Door> {
     pub(crate) bank: B,

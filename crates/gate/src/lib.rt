@@ -1,4 +1,4 @@
-//! The fair gate: up to 32 arms step towards a shared section, one register access at a time.
+//! The fair gate: arms step towards a shared section, one register access at a time.
 #![tactic(auto)]
 
 // The gate, and what its calls answer.

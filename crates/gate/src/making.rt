@@ -1,6 +1,7 @@
-ghost use Rattle.std.specs.Prelude.{◌≡◌, ◌≤◌, length, nat_le};
+ghost use Rattle.std.specs.Prelude.{◌≡◌, ◌≤◌, length, nat_le, replicate};
+ghost use Rattle.door.specs.Arms.{fresh};
 ghost use Rattle.door.specs.Limits.{arm_limit};
-ghost use Rattle.door.specs.Making.{arms_for, cleared};
+ghost use Rattle.door.specs.Making.{arms_for, IsLargest, cleared};
 ghost use Rattle.door.specs.States.{made};
 
 use crate::gate::Gate;
@@ -51,29 +52,38 @@ fn clear<B: Bank, D: Door>(bank: &mut B, count: usize)
     }
 }
 
+// The records of a gate just made.
+fn fresh_arms<D: Door>() -> [Arm<D>; ARM_LIMIT]
+    ensures { result ≡ replicate arm_limit (fresh D.table) }
+{
+    let arm = Arm {
+        position: D::idle(),
+        side: None,
+        visits: 0,
+        out: false,
+        row: [0; ARM_LIMIT],
+        notes: [false; ARM_LIMIT],
+    };
+    [arm; ARM_LIMIT]
+}
+
 impl<B: Bank, D: Door> Gate<B, D> {
-    /// A gate over a bank, which it owns from then on; with the wanted arm count, or as many as the door has room for there, 32 at most.
+    /// A gate over a bank, which it owns from then on; with the wanted arm count, or as many as the door has room for there, [`ARM_LIMIT`] at most.
     /// It cannot be refused.
+    #[tactic(auto, using(door::proofs::Rooms::arms_largest))]
     pub fn make(mut bank: B, number: u16, wanted: usize) -> Gate<B, D>
-        ensures { result ≡ made D.table (B.memory bank) B.HIGHEST number wanted (B.values bank) }
+        ensures made { result ≡ made D.table (B.memory bank) B.HIGHEST number wanted (B.values bank) }
+        ensures arms { IsLargest D.table B.HIGHEST (length (B.values bank)) wanted result.n }
     {
         let n = arm_count::<B, D>(&bank, wanted);
         if n > 0 {
             clear::<B, D>(&mut bank, registers::<D>(n));
         }
-        let arm = Arm {
-            position: D::idle(),
-            side: None,
-            visits: 0,
-            out: false,
-            row: [0; ARM_LIMIT],
-            notes: [false; ARM_LIMIT],
-        };
         Gate {
             bank,
             number,
             n,
-            arms: [arm; ARM_LIMIT],
+            arms: fresh_arms(),
             turns: 0,
         }
     }

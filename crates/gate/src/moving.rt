@@ -31,6 +31,7 @@ fn advance<D: Door>(arm: &mut Arm<D>, n: u8, value: u64)
 
 impl<B: Bank, D: Door> Gate<B, D> {
     /// Begins a visit of an idle arm. Refuses with 1, 2 or 5.
+    #[tactic(auto, using(crate::proofs::Places::place_fits))]
     pub fn begin(&mut self, arm: usize) -> Result<Phase, Refusal>
         ensures answer { result ≡ answered (refusal_of D.table self.old (Begin arm)) P.D }
         ensures after { self.new ≡ after D.table self.old (Begin arm) }

@@ -13,6 +13,7 @@ use doors::Door;
 impl<B: Bank, D: Door> Gate<B, D> {
     /// Gives the pass of an arm inside, and marks it as out. Refuses with 1, 6 or 7.
     /// The pass must be spent by `leave`.
+    #[tactic(auto, using(crate::proofs::Places::place_fits))]
     pub fn admit(&mut self, arm: usize) -> Result<Pass, Refusal>
         ensures answer { result ≡ admit_answer D.table self.old arm }
         ensures after { self.new ≡ after D.table self.old (Admit arm) }
@@ -40,6 +41,7 @@ impl<B: Bank, D: Door> Gate<B, D> {
     }
 
     /// Spends a pass that `confirm` would say yes to, and sends its arm to the exit. Any other is handed back with 8.
+    #[tactic(auto, using(crate::proofs::Places::place_fits))]
     pub fn leave(&mut self, mut pass: Pass) -> Result<Phase, HandedBack>
         ensures answer { result ≡ leave_answer D.table self.old pass }
         ensures after { self.new ≡ after D.table self.old (Leave pass.gate pass.arm) }

@@ -12,7 +12,7 @@ use door::access::{GROUP, value_at};
 use doors::Door;
 
 impl<B: Bank, D: Door> Gate<B, D> {
-    /// How many arms the gate has, 32 at most. Of any gate in hand: only a making and calls lead to it.
+    /// How many arms the gate has, `ARM_LIMIT` at most. Of any gate in hand: only a making and calls lead to it.
     pub fn arm_count(&self) -> usize
         ensures arms { result ≡ self.now.n }
         ensures gate { IsGate D.table self.now }
@@ -48,6 +48,7 @@ impl<B: Bank, D: Door> Gate<B, D> {
 
     /// How often the other arm went inside past this one, and whether it was idle when this one ended its doorway.
     /// Refuses with 1, for either arm.
+    #[tactic(auto, using(crate::proofs::Told::tally_told))]
     pub fn tally(&self, arm: usize, other: usize) -> Result<Tally, Refusal>
         ensures { result ≡ tally_answer D.table self.now arm other }
     {

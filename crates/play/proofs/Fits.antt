@@ -1,9 +1,11 @@
 -- A report fits the least memory that is asked for.
-use Rattle.std.proofs.Common.{◌≡◌, ℕ, zero, suc, ◌+◌, ◌-◌, ◌*◌, ◌^◌, ◌<◌, ◌≤◌, List, length, slice_index, Some, None, Option, subst, inl, inr, mul-suc, arith, length-append}
-use Rattle.std.proofs.lemmas.Bool.{cases_lt}
+use Rattle.std.proofs.Common.{◌≡◌, ℕ, zero, suc, ◌+◌, ◌-◌, ◌*◌, ◌^◌, ◌<◌, ◌≤◌, List, ◌++◌, length, decimal, slice_index, Some, None, Option, refl, subst, inl, inr, mul-suc, arith, length-append}
+use Rattle.std.specs.Fmt.{digits}
+use Rattle.std.proofs.lemmas.Bool.{cases_lt, leb-true, ltb-true}
 use Rattle.std.proofs.lemmas.Grind.{not_there}
 use Rattle.std.proofs.lemmas.Fmt.{length-decimal-le}
-use Rattle.door.specs.Limits.{tally_limit}
+use Rattle.std.proofs.lemmas.Nat.{mul-le}
+use Rattle.door.specs.Limits.{arm_limit, tally_limit}
 use Rattle.door.specs.Phases.{letter_of}
 use Rattle.door.specs.Table.{Table}
 use Rattle.door.specs.Arms.{side_of}
@@ -16,7 +18,33 @@ use Rattle.door.proofs.Bounds.{Bounded, run_bounded, made_bounded}
 use Rattle.play.specs.Limits.{report_room}
 use Rattle.play.specs.Text.{lines}
 use Rattle.gate.specs.Answers.{largest_count}
-use Rattle.play.specs.Reports.{side_text, arm_line, first_line, report_text}
+use Rattle.play.specs.Reports.{side_text, arm_line, first_line}
+
+-- the digits of the largest arm, the longest line of an arm, and the longest first line
+abbrev arm_digits : ℕ
+arm_digits = length (decimal arm_limit)
+
+abbrev longest_line : ℕ
+longest_line = arm_digits + 20
+
+abbrev longest_first : ℕ
+longest_first = arm_digits + 69
+
+-- as the limits are: computed
+some_digits : 0 < arm_digits
+unfolding digits
+some_digits = ltb-true _ _ refl
+
+all_digits : arm_limit < 10 ^ arm_digits
+unfolding digits
+all_digits = ltb-true _ _ refl
+
+longest_fits : longest_first + longest_line * arm_limit ≤ report_room
+unfolding digits
+longest_fits = leb-true _ _ refl
+
+digits_short : (n : ℕ) → n ≤ arm_limit → length (decimal n) ≤ arm_digits
+digits_short n h = length-decimal-le arm_digits n some_digits (omega (arith, h, all_digits)) (omega (arith, h))
 
 side_short : (s : Option ℕ) → side_of s ≤ 1 → length (side_text s) ≤ 1
 side_short (Some v) h = omega (arith, length-decimal-le 1 v)
@@ -36,7 +64,7 @@ lines_short line most (suc n) h =
     simp length-append (omega (arith, before, h n, mul-suc most n))
 
 module _ {At : Type 0} (door : Table At) where
-  line_short : (s : State At) (k : ℕ) → Bounded door s → AreBits door s → k < s.n → length (arm_line door s k) ≤ 22
+  line_short : (s : State At) (k : ℕ) → Bounded door s → AreBits door s → k < s.n → length (arm_line door s k) ≤ longest_line
   line_short s k h bits l =
       let a = arm_at door s (k + 1) in
       let b = h.each ((k + 1) - 1) in
@@ -45,37 +73,46 @@ module _ {At : Type 0} (door : Table At) where
       let begun = b.begun in
       let most = largest_bounded a.row s.n b.counts in
       let letter = letter_short (phase_at door s (k + 1)) in
-      let arm_digits = length-decimal-le 2 (k + 1) in
+      let number_digits = digits_short (k + 1) (omega arith) in
       let visit_digits = length-decimal-le 10 a.visits in
       let count_digits = length-decimal-le 3 (largest_count a.row s.n) in
       simp length-append (omega arith)
 
-  first_short : (s : State At) (orders refused : ℕ) → Bounded door s → AreBits door s → orders < 2 ^ 64 → refused < 2 ^ 64 → length (first_line s orders refused) ≤ 71
+  first_short : (s : State At) (orders refused : ℕ) → Bounded door s → AreBits door s → orders < 2 ^ 64 → refused < 2 ^ 64 → length (first_line s orders refused) ≤ longest_first
   first_short s orders refused h bits o r =
-      let few = h.few in
       let bit = bits.bit in
-      let arm_digits = length-decimal-le 2 s.n in
+      let number_digits = digits_short s.n h.few in
       let order_digits = length-decimal-le 20 orders in
       let refused_digits = length-decimal-le 20 refused in
       let bit_digits = length-decimal-le 1 (bit_of s) in
       simp length-append (omega arith)
 
-  bounded_fits : (s : State At) (orders refused : ℕ) → Bounded door s → AreBits door s → orders < 2 ^ 64 → refused < 2 ^ 64 → length (report_text door s orders refused) ≤ report_room
-  bounded_fits s orders refused h bits o r =
+  bounded_fits : (s : State At) (orders refused k : ℕ) → Bounded door s → AreBits door s → orders < 2 ^ 64 → refused < 2 ^ 64 → k ≤ s.n
+      → length (first_line s orders refused ++ lines (arm_line door s) k) ≤ report_room
+  bounded_fits s orders refused k h bits o r l =
       let few = h.few in
       let first = first_short s orders refused h bits o r in
-      let rest = lines_short (arm_line door s) 22 s.n (λ k l. line_short s k h bits l) in
-      omega (arith, length-append (first_line s orders refused) (lines (arm_line door s) s.n))
+      let rest = lines_short (arm_line door s) longest_line k (λ j m. line_short s j h bits (omega arith)) in
+      let all : longest_line * k ≤ longest_line * arm_limit = mul-le longest_line k longest_line arm_limit (omega arith) (omega arith) in
+      omega (arith, length-append (first_line s orders refused) (lines (arm_line door s) k), longest_fits)
 
-  -- the report of a gate in hand
-  pub report_fits : ShowsBits door → (s : State At) (orders refused : ℕ) → IsReached door s → orders < 2 ^ 64 → refused < 2 ^ 64 → length (report_text door s orders refused) ≤ report_room
-  report_fits bits s orders refused reached o r =
-      let short : Origin door s → length (report_text door s orders refused) ≤ report_room = λ origin.
+  -- of a gate in hand
+  page_fits : ShowsBits door → (s : State At) (orders refused k : ℕ) → IsReached door s → orders < 2 ^ 64 → refused < 2 ^ 64 → k ≤ s.n
+      → length (first_line s orders refused ++ lines (arm_line door s) k) ≤ report_room
+  page_fits bits s orders refused k reached o r l =
+      let short : Origin door s → length (first_line s orders refused ++ lines (arm_line door s) k) ≤ report_room = λ origin.
       let start = made_bounded door origin.memory origin.high origin.number origin.wanted origin.regs in
       let bounded = subst (Bounded door) origin.leads (run_bounded door origin.calls _ start) in
       let are_bits = subst (AreBits door) origin.leads (bits origin.memory origin.high origin.number origin.wanted origin.regs origin.calls) in
-      bounded_fits s orders refused bounded are_bits o r in
-      elim (cases_lt report_room (length (report_text door s orders refused))) [
+      bounded_fits s orders refused k bounded are_bits o r l in
+      elim (cases_lt report_room (length (first_line s orders refused ++ lines (arm_line door s) k))) [
         | inl l ↦ absurd (not_there reached (λ origin. let h = short origin in omega arith))
         | inr l ↦ l
       ]
+
+  -- so there is room for one line more
+  pub line_fits : ShowsBits door → (s : State At) (orders refused k : ℕ) (page line text : List ℕ) → IsReached door s → orders < 2 ^ 64 → refused < 2 ^ 64 → k < s.n
+      → page ≡ first_line s orders refused ++ lines (arm_line door s) k → text ≡ line → line ≡ arm_line door s k → length page + length text ≤ report_room
+  line_fits bits s orders refused k page line text reached o r l before is one =
+      let fits = page_fits bits s orders refused (suc k) reached o r (omega arith) in
+      rw before (rw is (rw one (omega (arith, fits, length-append (first_line s orders refused) (lines (arm_line door s) (suc k)), length-append (first_line s orders refused) (lines (arm_line door s) k), length-append (lines (arm_line door s) k) (arm_line door s k)))))

@@ -1,2 +1,4 @@
 pub mod Fits
 pub mod Lent
+pub mod Left
+pub mod Elsewhere

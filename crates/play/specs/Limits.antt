@@ -3,4 +3,4 @@ use Rattle.std.specs.Prelude.{ℕ}
 
 -- the least memory for a report or a fault line
 abbrev pub report_room : ℕ
-report_room = 1024
+report_room = 4096

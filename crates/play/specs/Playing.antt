@@ -1,6 +1,7 @@
 -- What playing a file comes to.
 use Rattle.std.specs.Prelude.{◌≡◌, ℕ, ◌+◌, ◌≤◌, IfOk, List, [], ◌∷◌, length, Ok, Err, Option, Result, is_some, if◌then◌else◌, nat_le}
 use Rattle.door.specs.Calls.{refusal_of, after, unless}
+use Rattle.door.specs.Making.{arms_for}
 use Rattle.door.specs.Table.{Table}
 use Rattle.door.specs.States.{State, made}
 use Rattle.door.specs.declared.call.Call.TheVariants.{Begin as begin, Step as step, Admit as admit, Leave as leave}
@@ -46,6 +47,11 @@ module _ {At : Type 0} (door : Table At) where
   refusals s [] = 0
   refusals s (o ∷ os) = (if is_some (order_refusal s o) then 1 else 0) + refusals (obeyed s o) os
 
+  -- why the gate refuses each of the orders, one after another; none where it obeys
+  abbrev pub each_refusal : State At → List Order → List (Option Refusal)
+  each_refusal s [] = []
+  each_refusal s (o ∷ os) = order_refusal s o ∷ each_refusal (obeyed s o) os
+
   -- gate 0 over a bank, made for a file and after its orders
   abbrev pub start : ℕ → ℕ → List ℕ → Contents → State At
   start lent high regs c = made door lent high 0 c.arms regs
@@ -82,6 +88,29 @@ module _ {At : Type 0} (door : Table At) where
     pub report : memory_is ≡ play_memory lent high regs memory (playable file (length memory))
     -- a report always fits the least memory
     pub fits : IfOk answer_is (λ n. n ≤ report_room)
+
+  -- why the gate of a play refused each order of the file
+  abbrev pub play_refusals : ℕ → ℕ → List ℕ → Result Contents PlayFault → List (Option Refusal)
+  play_refusals lent high regs (Ok c) = each_refusal (start lent high regs c) c.orders
+  play_refusals lent high regs (Err fault) = []
+
+  -- another bank gives a file as many arms
+  abbrev pub GivesAsMany : (high : ℕ) (regs : List ℕ) (high' : ℕ) (regs' : List ℕ) → Result Contents PlayFault → Type 0
+  GivesAsMany high regs high' regs' (Ok c) = arms_for door high' (length regs') c.arms ≡ arms_for door high (length regs) c.arms
+  GivesAsMany high regs high' regs' (Err fault) = Unit {0}
+
+  -- a play over a bank and one over another come to the same: the answer and the report memory of the one are those of the other,
+  -- and each order is refused for the same reason
+  pub record IsSamePlay (lent high : ℕ) (regs : List ℕ) (lent' high' : ℕ) (regs' : List ℕ) (said : Result Contents PlayFault) (memory : List ℕ) (answer_is : Result ℕ PlayFault) (memory_is : List ℕ) : Type 0 where
+    pub answer : answer_is ≡ play_answer lent' high' regs' said
+    pub report : memory_is ≡ play_memory lent' high' regs' memory said
+    pub refusals : play_refusals lent' high' regs' said ≡ play_refusals lent high regs said
+
+  -- so it is with every other bank that gives the file as many arms, whatever it holds: a play depends on nothing else of the bank
+  abbrev pub SameElsewhere : (lent high : ℕ) (regs file memory : List ℕ) → Result ℕ PlayFault → List ℕ → Type 0
+  SameElsewhere lent high regs file memory answer_is memory_is =
+      (lent' high' : ℕ) (regs' : List ℕ) → GivesAsMany high regs high' regs' (playable file (length memory))
+      → IsSamePlay lent high regs lent' high' regs' (playable file (length memory)) memory answer_is memory_is
 
   -- a gate in hand after the orders of a file
   abbrev pub obeyed_by : Result Contents PlayFault → State At → State At

@@ -10,10 +10,10 @@ use gate::{Gate, View};
 use itoa::Buffer;
 
 // No first line is longer, whatever its numbers are.
-pub(crate) const FIRST_ROOM: usize = 128;
+const FIRST_ROOM: usize = 128;
 
 // No line of an arm is longer.
-pub(crate) const LINE_ROOM: usize = 60;
+const LINE_ROOM: usize = 60;
 
 // A side, or a dash where it is missing.
 fn side_text(side: Option<u64>, digits: &mut Buffer) -> &str

@@ -4,23 +4,19 @@ ghost use Rattle.play.specs.Limits.{report_room};
 ghost use Rattle.play.specs.Reports.{report_text, layer_word, fault_text, text_answer, text_memory};
 ghost use Rattle.play.specs.Text.{overwritten};
 
-use crate::lines::{FIRST_ROOM, LINE_ROOM, arm_line, first_line};
+use crate::lines::{arm_line, first_line};
 use arrayvec::ArrayString;
 use bank::Bank;
-use door::arm::ARM_LIMIT;
 use doors::Door;
 use gate::Gate;
 use itoa::Buffer;
 use schedule::{Layer, PlayFault};
 
 /// The least memory for a report or a fault line, in bytes.
-pub const REPORT_ROOM: usize = 1024;
+pub const REPORT_ROOM: usize = 4096;
 
 // No fault line is longer.
 const FAULT_ROOM: usize = 128;
-
-// The first line and the lines of all arms, however long each is.
-const PAGE_ROOM: usize = FIRST_ROOM + ARM_LIMIT * LINE_ROOM;
 
 // Whether memory of so many bytes has room for any report or fault line.
 pub(crate) fn ask_room(bytes: usize) -> Result<(), PlayFault>
@@ -58,7 +54,7 @@ fn layer_word(layer: Layer) -> &'static str
 }
 
 /// Puts the line of a fault at the start of the memory, and answers its length.
-/// With fewer than 1,024 bytes it answers that the memory is short, and leaves it as it was.
+/// With fewer bytes than [`REPORT_ROOM`] it answers that the memory is short, and leaves it as it was.
 pub fn fault_line(fault: PlayFault, memory: &mut [u8]) -> Result<usize, PlayFault>
     ensures answer { result ≡ text_answer memory.old (fault_text fault) }
     ensures after { memory.new ≡ text_memory memory.old (fault_text fault) }
@@ -92,7 +88,7 @@ pub(crate) fn put_report<B: Bank, D: Door>(
         ≡ overwritten memory.old (report_text D.table gate.now orders refused) }
     ensures fits { result ≤ report_room }
 {
-    let mut page = ArrayString::<PAGE_ROOM>::new();
+    let mut page = ArrayString::<REPORT_ROOM>::new();
     page.push_str(first_line(gate, orders, refused).as_str());
     for k in 0..gate.arm_count() {
         page.push_str(arm_line(gate, k).as_str());
@@ -102,7 +98,7 @@ pub(crate) fn put_report<B: Bank, D: Door>(
 
 /// Puts the report of a gate after so many orders, of which some were refused, at the start of the memory,
 /// and answers its length.
-/// With fewer than 1,024 bytes it answers that the memory is short, and leaves it as it was.
+/// With fewer bytes than [`REPORT_ROOM`] it answers that the memory is short, and leaves it as it was.
 pub fn report<B: Bank, D: Door>(
     gate: &Gate<B, D>,
     orders: usize,

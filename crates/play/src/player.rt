@@ -2,7 +2,7 @@ ghost use Rattle.std.specs.Prelude.{◌≡◌, if◌then◌else◌, is_some};
 ghost use Rattle.std.specs.Result.{result_err};
 ghost use Rattle.door.specs.Calls.{refusal_of};
 ghost use Rattle.door.specs.declared.call.Call.TheVariants.{Admit};
-ghost use Rattle.play.specs.Playing.{order_refusal, obeyed, left_at_once, playable, obeyed_all, refusals, IsPlayed};
+ghost use Rattle.play.specs.Playing.{order_refusal, obeyed, left_at_once, playable, obeyed_all, refusals, IsPlayed, SameElsewhere};
 
 use crate::page::{ask_room, put_report};
 use crate::service::Service;
@@ -23,6 +23,7 @@ pub struct Played<B, G> {
 }
 
 // Admits an arm and lets it leave at once, unless the gate refuses it.
+#[tactic(auto, using(crate::proofs::Left::left_told))]
 fn leave_at_once<B: Bank, D: Door>(gate: &mut Gate<B, D>, arm: usize) -> Result<(), Refusal>
     ensures answer { result_err result ≡ refusal_of D.table gate.old (Admit arm) }
     ensures after { gate.new ≡ left_at_once D.table gate.old arm }
@@ -105,6 +106,7 @@ fn perform<B: Bank, D: Door>(
 
 /// Plays a file on gate 0 over a bank, puts the report at the start of the memory, and hands the bank back.
 /// The file is gone through whole first: a fault leaves bank and memory as they were. The service byte reads 1 meanwhile.
+/// The report, and which orders are refused, depend on the file, the door and the arm count alone, and on nothing else of the bank.
 /// A host names the door, as `play::<_, ThreeBits>(..)`.
 pub fn play<B: Bank, D: Door>(
     file: &[u8],
@@ -115,6 +117,8 @@ pub fn play<B: Bank, D: Door>(
     ensures played { IsPlayed D.table (B.memory bank) B.HIGHEST (B.values bank) file.now memory.old
         result.answer (B.memory result.bank) (B.values result.bank) memory.new }
     ensures restored { service.new ≡ service.old }
+    ensures elsewhere { SameElsewhere D.table (B.memory bank) B.HIGHEST (B.values bank) file.now memory.old
+        result.answer memory.new }
 {
     let guard = Service::start(service);
     perform(file, bank, memory, &guard)

@@ -1,5 +1,5 @@
 -- The definitions at small files.
-use Rattle.std.proofs.Common.{◌≡◌, List, [], ◌∷◌, Ok, Err, Result, refl}
+use Rattle.std.proofs.Common.{◌≡◌, suc, List, [], ◌∷◌, Ok, Err, Result, refl}
 use Rattle.schedule.specs.declared.order_number.Order.{Order}
 use Rattle.schedule.specs.declared.order_number.Order.TheVariants.{Begin, Step, Leave}
 use Rattle.schedule.specs.declared.fault.NumberFault.TheVariants.{Cut, Padded, Large}
@@ -8,6 +8,7 @@ use Rattle.schedule.specs.declared.fault.PlayFault.{PlayFault}
 use Rattle.schedule.specs.declared.fault.PlayFault.TheVariants.{Schedule, Full}
 use Rattle.schedule.specs.declared.writer.WriteRefusal.TheVariants as W
 use Rattle.schedule.specs.declared.fault.Layer.TheVariants as L
+use Rattle.schedule.specs.FileLimits.{arm_limit, largest_arm}
 use Rattle.schedule.specs.Faults.{fault_number, fault_place, fault_order, fault_layer}
 use Rattle.schedule.specs.Numbers.{groups}
 use Rattle.schedule.specs.Reading.{Contents, says, orders_from, read_answer, read_memory}
@@ -44,12 +45,12 @@ empty : says [] ≡ fault (Schedule (Number (Cut 0) 0))
 unfolding orders_from
 empty = refl
 
--- 20 has 32 arms and no orders; 21 and 00 have too many and none
-no_orders : says (32 ∷ []) ≡ Ok (record { arms = 32; orders = [] })
+-- the most arms and no orders; one arm more, and 00, have too many and none
+no_orders : says (groups arm_limit) ≡ Ok (record { arms = arm_limit; orders = [] })
 unfolding orders_from
 no_orders = refl
 
-many_arms : says (33 ∷ []) ≡ fault (Schedule ArmCount)
+many_arms : says (groups (suc arm_limit)) ≡ fault (Schedule ArmCount)
 unfolding orders_from
 many_arms = refl
 
@@ -110,17 +111,17 @@ unfolding orders_from
 part_memory = refl
 
 -- the writer refuses an arm count first, then a large number, then for want of memory
-far_first : write_answer 0 (Begin 4096 ∷ []) 0 ≡ Err W.ArmCount
+far_first : write_answer 0 (Begin (suc largest_arm) ∷ []) 0 ≡ Err W.ArmCount
 far_first = refl
 
-far : write_answer 32 (Begin 4096 ∷ []) 0 ≡ Err W.Large
+far : write_answer 1 (Begin (suc largest_arm) ∷ []) 0 ≡ Err W.Large
 far = refl
 
-near : write_answer 32 (Leave 4095 ∷ []) 3 ≡ Ok 3
+near : write_answer 1 (Leave largest_arm ∷ []) 3 ≡ Ok 3
 near = refl
 
-no_room : write_answer 32 (Leave 4095 ∷ []) 2 ≡ Err W.Full
+no_room : write_answer 1 (Leave largest_arm ∷ []) 2 ≡ Err W.Full
 no_room = refl
 
-written : write_memory 32 (Step 1 ∷ []) (9 ∷ 9 ∷ 9 ∷ []) ≡ 32 ∷ 5 ∷ 9 ∷ []
+written : write_memory 1 (Step 1 ∷ []) (9 ∷ 9 ∷ 9 ∷ []) ≡ 1 ∷ 5 ∷ 9 ∷ []
 written = refl

@@ -16,6 +16,6 @@ largest_number = 16383
 abbrev pub largest_arm : ℕ
 largest_arm = 4095
 
--- an arm count is 1 to 32
+-- an arm count is 1 to the limit
 abbrev pub is_arm_count : ℕ → Bool
 is_arm_count n = nat_le 1 n && nat_le n arm_limit

@@ -12,7 +12,7 @@ use Rattle.schedule.specs.Writing.{file_bytes, file_of}
 abbrev pub bytes_of : Contents → List ℕ
 bytes_of c = file_bytes c.arms c.orders
 
--- a list is lawful if its arm count is 1 to 32, no arm is too far, and its file is not too long
+-- a list is lawful if its arm count is 1 to the limit, no arm is too far, and its file is not too long
 pub record IsLawful (c : Contents) : Type 0 where
   pub some_arms : 1 ≤ c.arms
   pub few_arms : c.arms ≤ arm_limit

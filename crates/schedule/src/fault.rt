@@ -25,7 +25,7 @@ pub enum ScheduleFault {
     /// A number is faulty.
     #[error("{fault}")]
     Number { fault: NumberFault, order: usize },
-    /// The arm count is 0 or above 32.
+    /// The arm count is 0 or above [`ARM_LIMIT`](crate::ARM_LIMIT).
     #[error("arm count")]
     ArmCount,
     /// An order's number has kind 3.
@@ -39,7 +39,7 @@ pub enum PlayFault {
     /// The file has more than 60,000 bytes.
     #[error("long file")]
     LongFile,
-    /// The memory for the report has fewer than 1,024 bytes.
+    /// The memory for the report has fewer bytes than play asks for.
     #[error("short memory")]
     ShortMemory,
     /// The file is faulty.

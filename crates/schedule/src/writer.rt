@@ -11,7 +11,7 @@ use thiserror::Error;
 /// Why a list of orders is not written.
 #[derive(Clone, Copy, Debug, PartialEq, Eq, Error)]
 pub enum WriteRefusal {
-    /// The arm count is 0 or above 32.
+    /// The arm count is 0 or above [`ARM_LIMIT`].
     #[error("arm count")]
     ArmCount,
     /// An order's number is above 16,383.

@@ -1,5 +1,5 @@
-use Rattle.std.proofs.Common.{rules}
+use Rattle.std.proofs.Common.{arith}
 use Rattle.plantday.proofs.lend.Goals as goal
 
 pub returns : goal.returns
-returns g c = let held = c.day_over.ensures.registers in let e = held.2 in (_, (held.0, held.1, search rules, held.3))
+returns g c = let held = c.day_over.ensures.registers in let e = held.2 in (_, (held.0, held.1, grind (arith, e), held.3))

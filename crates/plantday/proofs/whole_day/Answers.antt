@@ -6,7 +6,7 @@ use Rattle.plantday.proofs.Noted.{looked}
 use Rattle.plantday.proofs.whole_day.Goals as goal
 
 pub turn-requires : goal.turn-requires
-turn-requires g c = (search rules, (c.pick-k.ensures, n_stays g.D.Door.table c.loop-t.invariant ∙ ap (λ s. s.n) c.make-gate.ensures ∙ c.requires))
+turn-requires g c = (search rules, (c.pick-k.ensures, n_stays g.D.Door.table c.loop-t.invariant ∙ ap (λ s. s.n) c.make-gate.ensures.made ∙ c.requires))
 
 pub loop-t-preserved : goal.loop-t-preserved
 loop-t-preserved g c = joined g.D.Door.table c.loop-t.invariant c.turn.ensures
@@ -14,7 +14,7 @@ loop-t-preserved g c = joined g.D.Door.table c.loop-t.invariant c.turn.ensures
 pub unwrap-requires : goal.unwrap-requires
 unwrap-requires g c =
     let n = n_stays g.D.Door.table c.loop-t.invariant in
-    let made = c.make-gate.ensures in
+    let made = c.make-gate.ensures.made in
     let arms = c.requires in
     let seen = c.look.ensures.answer in
     grind (arith, nat_tests)
@@ -25,7 +25,7 @@ returns g c =
     let door = g.D.Door.table in
     let met = g.met.D.Door in
     record {
-      fair = fair_after door met.phased met.rules met.bits met.way (bank.memory c.args.bank) bank.HIGHEST 7 6 (bank.values c.args.bank) (subst (λ s. Called door s c.loop-t.gate) c.make-gate.ensures c.loop-t.invariant);
+      fair = fair_after door met.phased met.rules met.bits met.way (bank.memory c.args.bank) bank.HIGHEST 7 6 (bank.values c.args.bank) (subst (λ s. Called door s c.loop-t.gate) c.make-gate.ensures.made c.loop-t.invariant);
       turns = looked door c.loop-t.gate 1 c.unwrap.result (sym c.look.ensures.answer ∙ c.unwrap.ensures);
-      lent = memory_stays door c.loop-t.invariant ∙ ap (λ s. s.memory) c.make-gate.ensures;
+      lent = memory_stays door c.loop-t.invariant ∙ ap (λ s. s.memory) c.make-gate.ensures.made;
     }

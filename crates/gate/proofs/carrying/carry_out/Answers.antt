@@ -26,7 +26,7 @@ returns g c =
     let met = g.met.D.Door in
     let start = made door (bank.memory c.args.bank) bank.HIGHEST c.args.number c.args.wanted (bank.values c.args.bank) in
     let e : c.loop-call.gate ≡ run door start c.args.calls.now =
-    c.loop-call.invariant ∙ (ap (run door _) (take_all c.loop-call.call-index c.args.calls.now c.loop-call-test.false) ∙ ap (λ s. run door s c.args.calls.now) c.make-gate.ensures) in
+    c.loop-call.invariant ∙ (ap (run door _) (take_all c.loop-call.call-index c.args.calls.now c.loop-call-test.false) ∙ ap (λ s. run door s c.args.calls.now) c.make-gate.ensures.made) in
     record {
       state = e;
       lent = ap (λ s. s.memory) e ∙ run_memory door c.args.calls.now start;

@@ -1,10 +1,20 @@
-use Rattle.std.proofs.Common.{◌≡◌, length, Ok, sym, ap, ◌∙◌}
+use Rattle.std.proofs.Common.{◌≡◌, ℕ, ◌≤◌, List, length, Ok, sym, ap, ◌∙◌, arith, rules}
+use Rattle.std.proofs.lemmas.Bool.Decides.{nat_tests}
 use Rattle.door.specs.States.{made}
-use Rattle.play.specs.Playing.{start, end, obeyed_all, refusals, play_text, play_answer, play_regs, play_memory}
+use Rattle.schedule.specs.Reading.{Contents}
+use Rattle.play.specs.Limits.{report_room}
+use Rattle.play.specs.Playing.{playable, start, end, obeyed_all, refusals, play_text, play_answer, play_regs, play_memory}
 use Rattle.play.specs.Reports.{report_text}
 use Rattle.play.specs.Text.{overwritten}
 use Rattle.play.proofs.Lent.{obeyed_all_lent}
 use Rattle.play.proofs.player.perform.Goals as goal
+
+-- a file that can be played leaves room for a report
+room : (file : List ℕ) (memory : ℕ) (c : Contents) → playable file memory ≡ Ok c → report_room ≤ memory
+room file memory c e = grind (arith, nat_tests)
+
+pub put_report-length-requires : goal.put_report-length-requires
+put_report-length-requires g c = (search rules, room c.args.file.now _ c.in-Ok.schedule (sym c.ready.ensures ∙ c.in-Ok.is))
 
 pub returns : goal.returns
 returns g c =
@@ -16,7 +26,7 @@ returns g c =
     let said = c.in-Ok.schedule in
     let playable = sym c.ready.ensures ∙ c.in-Ok.is in
     let first : c.make-gate.result ≡ start door lent high regs said =
-    c.make-gate.ensures ∙ ap (λ arms. made door lent high 0 arms regs) (c.from.ensures ∙ ap (λ h. h.arms) c.heading-heading.ensures) in
+    c.make-gate.ensures.made ∙ ap (λ arms. made door lent high 0 arms regs) (c.from.ensures ∙ ap (λ h. h.arms) c.heading-heading.ensures) in
     let last : c.obey_all-refused.new.gate ≡ end door lent high regs said =
     c.obey_all-refused.ensures.after ∙ ap (λ s. obeyed_all door s said.orders) first in
     let refused = c.obey_all-refused.ensures.refused ∙ ap (λ s. refusals door s said.orders) first in

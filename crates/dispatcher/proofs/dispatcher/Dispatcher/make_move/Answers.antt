@@ -1,13 +1,20 @@
-use Rattle.std.proofs.Common.{subst, sym, ◌∙◌, rules}
+use Rattle.std.proofs.Common.{◌≡◌, subst, sym, ap, ◌∙◌, rules, arith}
 use Rattle.door.proofs.Bools.{is_true}
+use Rattle.door.proofs.Runs.{run_n}
 use Rattle.ring.specs.Rings.{items}
 use Rattle.dispatcher.specs.Dispatchers.{Dispatch, NoPassOut}
-use Rattle.dispatcher.specs.Moves.{is_busy, in_turn}
+use Rattle.dispatcher.specs.Moves.{is_busy, in_turn, opening}
 use Rattle.dispatcher.proofs.Together.{idle_move, served_move}
 use Rattle.dispatcher.proofs.Order.{found_yes}
 use Rattle.dispatcher.proofs.Served.{led, law_of_moves}
 use Rattle.dispatcher.proofs.Spent.{opening_spent}
 use Rattle.dispatcher.proofs.dispatcher.Dispatcher.make_move.Goals as goal
+
+-- the arm served last is one of the gate's still
+pub first_busy-requires : goal.first_busy-requires
+first_busy-requires g c =
+    let n : c.begin_asked.new.gate.n ≡ c.self.inside.gate.n = ap (λ s. s.n) c.begin_asked.ensures.gate ∙ run_n g.D.Door.table (opening (items c.args.asked.now)) c.self.inside.gate in
+    (search rules, omega (arith, n, c.self.invariant.within))
 
 -- all arms are idle
 pub invariant_of-self : goal.invariant_of-self

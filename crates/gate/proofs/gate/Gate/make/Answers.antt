@@ -1,8 +1,15 @@
-use Rattle.std.proofs.Common.{◌<◌, ◌≤◌, length, sym, subst, rules}
+use Rattle.std.proofs.Common.{◌≡◌, ℕ, ◌<◌, ◌≤◌, List, length, replicate, sym, ap, ◌∙◌, subst, arith, rules}
+use Rattle.std.proofs.lemmas.Bool.Decides.{nat_tests}
 use Rattle.door.proofs.Origins.{reached_made}
+use Rattle.door.specs.Arms.{fresh}
 use Rattle.door.specs.Limits.{arm_limit}
+use Rattle.door.specs.Making.{arms_for, cleared, made_regs}
+use Rattle.door.specs.States.{made}
+use Rattle.door.specs.Table.{Table}
+use Rattle.door.specs.declared.arm.Arm.{Arm}
 use Rattle.door.proofs.Rooms.{arms_few, arms_fit}
 use Rattle.gate.proofs.gate.Gate.make.Goals as goal
+use Rattle.gate.proofs.gate.Gate.make.Goals.{then-n-gt0, else-n-gt0}
 
 pub registers-requires : goal.registers-requires
 registers-requires g c = subst (λ n. n ≤ arm_limit) (sym c.arm_count-n.ensures) (arms_few g.D.Door.table _ _ _)
@@ -19,10 +26,40 @@ clear-requires g c =
       high = fit.1;
     }
 
+-- a gate put together from what its parts are
+made_of : {At : Type 0} (door : Table At) (memory high number wanted n lent : ℕ) (regs new : List ℕ) (arms : List (Arm At))
+    → n ≡ arms_for door high (length regs) wanted → lent ≡ memory → new ≡ made_regs door n regs → arms ≡ replicate arm_limit (fresh door)
+    → record { memory = lent; high = high; number = number; n = n; regs = new; arms = arms; turns = 0 } ≡ made door memory high number wanted regs
+made_of door memory high number wanted n lent regs new arms en el er ea =
+    λ i. record { memory = el i; high = high; number = number; n = en i; regs = (er ∙ ap (λ k. made_regs door k regs) en) i; arms = ea i; turns = 0 }
+
+some_made : {At : Type 0} (door : Table At) (n : ℕ) (regs : List ℕ) → 0 < n → cleared door (door.room n) regs ≡ made_regs door n regs
+some_made door n regs h = grind (arith, nat_tests)
+
+none_made : {At : Type 0} (door : Table At) (n : ℕ) (regs : List ℕ) → n ≤ 0 → regs ≡ made_regs door n regs
+none_made door n regs h = grind (arith, nat_tests)
+
+pub returns-clause-made : goal.returns-clause-made
+returns-clause-made g c =
+    let door = g.D.Door.table in
+    let bank = g.B.Bank in
+    let regs = bank.values c.args.bank in
+    let n = c.arm_count-n.result in
+    let written : (bank.values c.if-n-gt0.bank ≡ made_regs door n regs) × (bank.memory c.if-n-gt0.bank ≡ bank.memory c.args.bank) =
+    elim c.if-n-gt0.branch [
+      | then-n-gt0 w ↦ (
+        ap bank.values w.bank-is ∙ (w.clear.ensures.after ∙ (ap (λ k. cleared door k regs) w.registers.ensures.is ∙ some_made door n regs w.if-n-gt0.true)),
+        ap bank.memory w.bank-is ∙ w.clear.ensures.lent,
+      )
+      | else-n-gt0 w ↦ (ap bank.values w.bank-is ∙ none_made door n regs w.if-n-gt0.false, ap bank.memory w.bank-is)
+    ] in
+    made_of door (bank.memory c.args.bank) bank.HIGHEST c.args.number c.args.wanted n (bank.memory c.if-n-gt0.bank) regs (bank.values c.if-n-gt0.bank) c.fresh_arms.result
+    c.arm_count-n.ensures written.1 written.0 c.fresh_arms.ensures
+
 pub invariant_of-result : goal.invariant_of-result
 invariant_of-result g c =
     record {
       few = subst (λ n. n ≤ arm_limit) (sym c.arm_count-n.ensures) (arms_few g.D.Door.table _ _ _);
       full = search rules;
-      reached = reached_made g.D.Door.table (g.B.Bank.memory c.args.bank) g.B.Bank.HIGHEST c.args.number c.args.wanted (g.B.Bank.values c.args.bank) _ (search rules);
+      reached = reached_made g.D.Door.table (g.B.Bank.memory c.args.bank) g.B.Bank.HIGHEST c.args.number c.args.wanted (g.B.Bank.values c.args.bank) _ (returns-clause-made g c);
     }

@@ -1,0 +1,8 @@
+use Rattle.play.proofs.Elsewhere.{same_elsewhere}
+use Rattle.play.proofs.player.play.Goals as goal
+
+pub returns-clause-elsewhere : goal.returns-clause-elsewhere
+returns-clause-elsewhere g c =
+    let met = g.met.D.Door in
+    let played = c.perform.ensures in
+    same_elsewhere g.D.Door.table met.accesses met.bits _ _ _ _ _ _ _ played.answer played.report
