@@ -55,7 +55,7 @@ class Gate:
     def inside(self, i):
         self.at[i] = "F"
         for k in range(1, self.n + 1):
-            if k != i and self.phase(k) in "WFX":
+            if self.phase(k) == "W":
                 self.row[k][i] = min(255, self.row[k][i] + 1)
 
     def step(self, i):
@@ -99,7 +99,6 @@ class Gate:
             self.group, self.at[i] = 1 - s, "X2"
         elif at == "X2":
             self.flag[i], self.at[i], self.side[i] = 0, "I", None
-            self.row[i] = [0] * (self.n + 1)
         return True
 
 
@@ -142,7 +141,6 @@ class FourValuedGate(Gate):
             self.group, self.at[i] = 1 - s, "X2"
         elif at == "X2":
             self.state[i], self.at[i], self.side[i] = 3, "I", None
-            self.row[i] = [0] * (self.n + 1)
         return True
 
 
@@ -255,8 +253,13 @@ def past_a_waiting_arm(kind=Gate):
 
 
 SAMPLE = bytes([2, 4] + [5] * 5 + [8] + [9] * 5 + [5] * 6 + [6] + [5] * 3)
+# Two arms wait, 1 goes inside and then 2; both leave.
+BOTH_INSIDE = bytes([2, 4] + [5] * 5 + [8] + [9] * 5 + [5] * 6 + [9] * 6)
+BOTH_GONE = BOTH_INSIDE + bytes([6, 5, 5, 10, 9, 9])
 FILES = [
     ("two_arms", SAMPLE),
+    ("both_inside", BOTH_INSIDE),
+    ("both_gone", BOTH_GONE),
     ("second_entry", past_a_waiting_arm()),
     ("hall_of_32", file_of(32, wild(1, 32, 20000, [3, 17, 32])[0])),
     ("hall_of_100", file_of(100, wild(5, 100, 40000, [3, 50, 100], 110)[0])),
@@ -283,7 +286,7 @@ FILES = [
 
 
 # How many edge cases the crate proves.
-EDGE_CASES = 64
+EDGE_CASES = 78
 
 # The file that the program plays through the four-valued door.
 TWICE_PAST = past_a_waiting_arm(FourValuedGate)

@@ -1,11 +1,11 @@
 -- A gate's state stays within its bounds, whatever its door and whatever is called.
-use Rattle.std.proofs.Common.{ℕ, zero, suc, ◌+◌, ◌-◌, ◌≤◌, Bool, true, false, not, ◌&&◌, eqb, List, [], ◌∷◌, length, get_or, set, replicate, arith}
+use Rattle.std.proofs.Common.{ℕ, ◌+◌, ◌-◌, ◌≤◌, Bool, true, false, List, [], ◌∷◌, length, get_or, set, replicate, arith}
 use Rattle.std.proofs.lemmas.List.{get_or-set_same, get_or-set_other, set_past, get_or-replicate, get_or_past, length-replicate}
 use Rattle.std.proofs.lemmas.Bool.{cond_both}
 use Rattle.door.specs.Limits.{arm_limit, visit_limit, tally_limit}
 use Rattle.door.specs.Table.{Table}
 use Rattle.door.specs.Arms.{fresh, no_arm}
-use Rattle.door.specs.Tallies.{with_row, counted, each, past_doorway, tallied}
+use Rattle.door.specs.Tallies.{with_row, is_waiting, counted, tallied}
 use Rattle.door.specs.States.{State, made, arm_at, is_arm, phase_at, with_arm}
 use Rattle.door.specs.declared.call.Call.{Call}
 use Rattle.door.specs.declared.call.Call.TheVariants.{Begin as begin, Step as step, Admit as admit, Leave as leave}
@@ -14,7 +14,7 @@ use Rattle.door.specs.declared.arm.Arm.{Arm}
 use Rattle.door.specs.declared.phase.Phase.{Phase}
 use Rattle.door.proofs.Accepted.{unless_both, for_arm_none, begin_none}
 use Rattle.door.proofs.Rooms.{arms_few}
-use Rattle.door.proofs.Tables.{tallied_holds}
+use Rattle.door.proofs.Tables.{kept_map, tallied_holds}
 
 -- no visit and no count of a record is above its limit
 pub record BoundedArm {At : Type 0} (a : Arm At) : Type 0 where
@@ -47,24 +47,17 @@ module _ {At : Type 0} (door : Table At) where
   fresh_bounded = record { begun = omega arith; counts = zeros arm_limit }
 
   -- rows
-  counted_bounded : (b k : ℕ) (a : Arm At) → BoundedArm a → BoundedArm (counted door b k a)
-  counted_bounded b k a h =
-      cond_both (not (eqb k b) && past_doorway (door.phase a.position)) _ _ BoundedArm
+  counted_bounded : (b : ℕ) (a : Arm At) → BoundedArm a → BoundedArm (counted door b a)
+  counted_bounded b a h =
+      cond_both (is_waiting door a) _ _ BoundedArm
       (λ _. row_bounded _ a.notes a (kept_set (λ v. v ≤ tally_limit) a.row b _ 0 h.counts (omega arith)) h)
       (λ _. h)
-
-  each_bounded : (f : ℕ → Arm At → Arm At) → ((k : ℕ) (a : Arm At) → BoundedArm a → BoundedArm (f k a))
-      → (j : ℕ) (arms : List (Arm At)) → ((k : ℕ) → BoundedArm (get_or arms k (no_arm door))) → (k : ℕ) → BoundedArm (get_or (each f j arms) k (no_arm door))
-  each_bounded f h j [] all k = no_arm_bounded
-  each_bounded f h j (a ∷ more) all zero = h j a (all zero)
-  each_bounded f h j (a ∷ more) all (suc k) = each_bounded f h (suc j) more (λ m. all (suc m)) k
 
   tallied_bounded : (k : ℕ) (p q : Phase) (arms : List (Arm At)) → ((j : ℕ) → BoundedArm (get_or arms j (no_arm door))) → (j : ℕ) → BoundedArm (get_or (tallied door k p q arms) j (no_arm door))
   tallied_bounded k p q arms h j =
       tallied_holds door (λ rs. BoundedArm (get_or rs j (no_arm door))) k p q arms (h j)
       (kept_set BoundedArm arms k _ (no_arm door) h (row_bounded _ _ (get_or arms k (no_arm door)) (zeros arm_limit) (h k)) j)
-      (each_bounded (counted door k) (counted_bounded k) 0 arms h j)
-      (kept_set BoundedArm arms k _ (no_arm door) h (row_bounded _ _ (get_or arms k (no_arm door)) (zeros arm_limit) (h k)) j)
+      (kept_map (λ new old. BoundedArm old → BoundedArm new) (counted door k) (no_arm door) (λ x. x) (counted_bounded k) arms j (h j))
 
   -- calls
   visit_bounded : (i : ℕ) (p : At) (v : ℕ) (o : Bool) (s : State At) → v ≤ visit_limit → Bounded s → Bounded (with_arm i (with_visit p v o (arm_at door s i)) s)

@@ -1,5 +1,5 @@
 -- The law of a gate over any door: how often an arm is passed, and its row, from the rules alone; right of way and going inside as the door shows them.
-use Rattle.std.proofs.Common.{◌≡◌, ℕ, ◌-◌, ◌≤◌, Bool, true, false, T, ◌↔◌, ◌⊎◌, inr, List, [], ◌∷◌, length, None, Ok, Result, sym, refl, ap, ◌∙◌, subst, ⊎_elim, arith}
+use Rattle.std.proofs.Common.{◌≡◌, ℕ, ◌+◌, ◌-◌, ◌≤◌, Bool, true, false, cond, T, ◌↔◌, ◌⊎◌, inr, List, [], ◌∷◌, length, None, Ok, Result, sym, refl, ap, ◌∙◌, subst, ⊎_elim, arith}
 use Rattle.std.proofs.lemmas.Grind.{not_there}
 use Rattle.std.proofs.lemmas.List.{length-replicate, get_or-replicate}
 use Rattle.door.specs.Limits.{arm_limit}
@@ -7,9 +7,10 @@ use Rattle.door.specs.Table.{Table}
 use Rattle.door.specs.Arms.{fresh, no_arm}
 use Rattle.door.specs.States.{State, made, is_arm, arm_at}
 use Rattle.door.specs.Calls.{after, run, refusal_of, answered, has_way, way_answer}
-use Rattle.door.specs.History.{goes_inside, GoesInside, is_in, Waits, RightOfWay, entries_since, idle_then}
+use Rattle.door.specs.History.{goes_inside, GoesInside, is_in, Waits, RightOfWay, entries_before, latest_lost, entries_since, idle_then, lost_to}
+use Rattle.door.specs.Phases.{same_phase}
 use Rattle.door.specs.Rules.{Phased, Always, ShowsRules}
-use Rattle.door.specs.Law.{OnceIfIdle, RowCounts, NotesTell, AllInside, PassingBound, ShowsWay, Fair, Law, Origin, IsReached, Tells}
+use Rattle.door.specs.Law.{OnceIfIdle, RowCounts, NotesTell, RowKept, NotesKept, LostAtMostTwice, AllInside, PassingBound, ShowsWay, Fair, Law, Origin, IsReached, Tells}
 use Rattle.door.specs.declared.call.Call.{Call}
 use Rattle.door.specs.declared.call.Call.TheVariants.{Way}
 use Rattle.door.specs.declared.phase.Phase.TheVariants as P
@@ -17,10 +18,10 @@ use Rattle.door.specs.declared.refusal.Refusal.{Refusal}
 use Rattle.door.proofs.Bools.{test, clash, and_T}
 use Rattle.door.proofs.Rooms.{arms_few}
 use Rattle.door.proofs.Accepted.{arm_in}
-use Rattle.door.proofs.Passed.{Passed, passed_run, bound, none_itself, start_passed}
+use Rattle.door.proofs.Passed.{Passed, passed_run, bound, none_itself, start_fresh, start_passed}
 use Rattle.door.proofs.Runs.{run_n}
 use Rattle.door.proofs.Changes.{change_of}
-use Rattle.door.proofs.Rows.{Row, row_run}
+use Rattle.door.proofs.Rows.{Row, Kept, kept_run}
 
 -- the answer of way
 yes_is : (b : Bool) → (◌≡◌ {A = Result Bool Refusal} (Ok b) (Ok true)) ↔ T b
@@ -60,25 +61,47 @@ module _ {At : Type 0} {door : Table At} (phased : Phased door) (rules : ShowsRu
   fresh_at : (w : ℕ) → 1 ≤ w → w ≤ start.n → arm_at door start w ≡ fresh door
   fresh_at w lo hi = get_or-replicate arm_limit (w - 1) (fresh door) (no_arm door) (let z = few in omega arith)
 
-  pub row_now : (w b : ℕ) (wlo : 1 ≤ w) (whi : w ≤ start.n) (blo : 1 ≤ b) (bhi : b ≤ start.n)
-      → Row door phased w b start.n wlo whi blo bhi few (arm_at door now w) (entries_since door w b start past) (idle_then door w b start past)
-  row_now w b wlo whi blo bhi =
-      row_run door phased w b start.n wlo whi blo bhi few past start refl (let z = few in let y = length-replicate arm_limit (fresh door) in omega arith) 0 false (first w b)
-      (subst (λ a. Row door phased w b start.n wlo whi blo bhi few a 0 false) (sym (fresh_at w wlo whi))
-      (record {
-        full = length-replicate {A = ℕ} arm_limit 0;
-        count = λ t. get_or-replicate arm_limit (b - 1) 0 0 (let z = few in omega arith);
-        note = λ t. get_or-replicate arm_limit (b - 1) false false (let z = few in omega arith);
-      }))
+  fresh_phase : (w : ℕ) → is_in door P.W start w ≡ false
+  fresh_phase w = ap (λ p. same_phase p P.W) (start_fresh door phased memory high number wanted regs w)
+
+  fresh_kept : (w b : ℕ) → 1 ≤ w → w ≤ start.n → 1 ≤ b → b ≤ start.n → Kept door w b start 0 0 false
+  fresh_kept w b wlo whi blo bhi = record {
+    row = subst (λ a. Row b a 0 false) (sym (fresh_at w wlo whi)) (record {
+      full = length-replicate {A = ℕ} arm_limit 0;
+      count = get_or-replicate arm_limit (b - 1) 0 0 (let z = few in omega arith);
+      note = get_or-replicate arm_limit (b - 1) false false (let z = few in omega arith);
+    });
+    since = λ t. refl;
+    low = (omega arith, λ t. absurd t);
+  }
+
+  kept : (w b : ℕ) → T (is_arm now w) → T (is_arm now b) → Kept door w b now (lost_to door w b start past) (entries_since door w b start past) (idle_then door w b start past)
+  kept w b hw hb =
+      let x = arm_range w hw in
+      let y = arm_range b hb in
+      let room : start.n ≤ length start.arms = let z = few in let l = length-replicate arm_limit (fresh door) in omega arith in
+      subst (λ r. Kept door w b now (latest_lost door w b start past r) (entries_since door w b start past) (idle_then door w b start past))
+      (ap (λ t. cond t (0 + entries_before door w b start past) 0) (fresh_phase w))
+      (kept_run door w b start.n x.0 x.1 y.0 y.1 few phased past start refl room 0 0 false (first w b) (fresh_kept w b x.0 x.1 y.0 y.1))
 
   pub counted_once : OnceIfIdle door start past now
   counted_once w b hw hb = (passed w b hw hb).1
 
+  pub row_kept : RowKept door start past now
+  row_kept w b hw hb = (kept w b hw hb).row.count
+
+  pub notes_kept : NotesKept door start past now
+  notes_kept w b hw hb = (kept w b hw hb).row.note
+
+  pub lost : LostAtMostTwice door start past now
+  lost w b hw hb = (kept w b hw hb).low
+
+  -- of a waiting arm
   pub rows : RowCounts door start past now
-  rows w b hw hb = let x = waits_range w hw in let y = arm_range b hb in (row_now w b x.0 x.1 y.0 y.1).count x.2
+  rows w b hw hb = let x = and_T (is_arm now w) (is_in door P.W now w) hw in let k = kept w b x.0 hb in k.row.count ∙ k.since x.1
 
   pub notes : NotesTell door start past now
-  notes w b hw hb = let x = waits_range w hw in let y = arm_range b hb in (row_now w b x.0 x.1 y.0 y.1).note x.2
+  notes w b hw hb = notes_kept w b (and_T (is_arm now w) (is_in door P.W now w) hw).0 hb
 
 -- how often an arm is passed, of any door that shows the rules
 pub passing : {At : Type 0} (door : Table At) → Phased door → ShowsRules door → PassingBound door
@@ -88,6 +111,9 @@ passing door phased rules = record {
   itself = not_itself phased rules;
   row = rows phased rules;
   notes = notes phased rules;
+  row_kept = row_kept phased rules;
+  notes_kept = notes_kept phased rules;
+  lost = lost phased rules;
 }
 
 -- of any door that shows the rules, right of way and going inside
@@ -102,6 +128,9 @@ module _ {At : Type 0} (door : Table At) (phased : Phased door) (rules : ShowsRu
         itself = bound.itself memory high number wanted regs past;
         row = bound.row memory high number wanted regs past;
         notes = bound.notes memory high number wanted regs past;
+        row_kept = bound.row_kept memory high number wanted regs past;
+        notes_kept = bound.notes_kept memory high number wanted regs past;
+        lost = bound.lost memory high number wanted regs past;
         rounds = way.rounds memory high number wanted regs past;
         told = way.told memory high number wanted regs past;
       }

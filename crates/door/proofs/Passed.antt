@@ -1,5 +1,5 @@
 -- How often an arm went inside past one that waits, over every history of a gate whose door shows the rules.
-use Rattle.std.proofs.Common.{◌≡◌, ℕ, zero, suc, ◌+◌, ◌-◌, ◌≤◌, Bool, true, false, cond, not, ◌&&◌, T, ◌≢◌, ◌⊎◌, inl, inr, List, [], ◌∷◌, get_or, set, replicate, None, Option, sym, refl, ap, subst, ⊎_elim, arith}
+use Rattle.std.proofs.Common.{◌≡◌, ℕ, zero, suc, ◌+◌, ◌-◌, ◌≤◌, Bool, true, false, cond, not, ◌&&◌, T, ◌≢◌, ◌⊎◌, inl, List, [], ◌∷◌, get_or, set, replicate, None, Option, sym, refl, ap, subst, ⊎_elim, arith}
 use Rattle.std.proofs.lemmas.Bool.{cases_eq}
 use Rattle.std.proofs.lemmas.Bool.Decides.{nat_tests}
 use Rattle.std.proofs.lemmas.List.{get_or-set_same, get_or-set_other, set_past}
@@ -35,9 +35,12 @@ absorb x y h = grind arith
 abbrev Past : Phase → Type 0
 Past q = (T (same_phase P.D q) → ⊥) × (T (same_phase P.X q) → ⊥)
 
--- an arm that waits after a change waited before it, or was in its doorway
-was_before : (bit : Bool) (arms : ℕ → Stage) (a a' : Stage) (b' : Bool) → Goes bit arms a a' b' → T (at P.W a') → T (at P.W a) ⊎ T (at P.D a)
-was_before bit arms a a' b' goes h = grind arith
+-- an arm that waits after a change waited before it, or ended its doorway; one that waited before it waits on, or went inside
+abbrev Waiting : Stage → Stage → Type 0
+Waiting a a' = (T (at P.W a') → T (at P.W a) ⊎ T (at P.D a && at P.W a')) × (T (at P.W a) → T (at P.W a') ⊎ T (at P.W a && at P.F a'))
+
+waiting_goes : (bit : Bool) (arms : ℕ → Stage) (a a' : Stage) (b' : Bool) → Goes bit arms a a' b' → Waiting a a'
+waiting_goes bit arms a a' b' goes = ((λ h. grind arith), (λ h. grind arith))
 
 pub two_phases : (a p q : Phase) → (T (same_phase p q) → ⊥) → T (same_phase a p) → T (same_phase a q) → ⊥
 two_phases a p q d x y = grind arith
@@ -109,18 +112,18 @@ module _ {At : Type 0} (door : Table At) where
     pub enters_shown : enters v (meaning_of door s) (meaning_of door (after door s c)) ≡ goes_inside door v s c
     enters_shown = shown_change P.W P.F ((λ t. absurd t), (λ t. absurd t)) (λ t. absurd t)
 
-    pub before_waiting : Change (meaning_of door s) (meaning_of door (after door s c)) (arm_of c) → T (is_in door P.W (after door s c) v) → T (is_in door P.W s v) ⊎ T (is_in door P.D s v)
-    before_waiting change t =
+    -- who waits after a call waited before it, or ended its doorway by it; who waited before it waits on, or went inside by it
+    pub waiting_call : Change (meaning_of door s) (meaning_of door (after door s c)) (arm_of c)
+        → (T (is_in door P.W (after door s c) v) → T (is_in door P.W s v) ⊎ T (ends_doorway door v s c))
+        × (T (is_in door P.W s v) → T (is_in door P.W (after door s c) v) ⊎ T (goes_inside door v s c))
+    waiting_call change =
         let m = meaning_of door s in
         let m' = meaning_of door (after door s c) in
-        let t' : T (at P.W (m'.arms v)) = subst T (sym (phase_meant (after door s c) P.W v lo (let z = after_n door s c in omega arith))) t in
-        ⊎_elim
-        (λ q. ⊎_elim
-        (λ x. inl (subst T (phase_meant s P.W v lo hi) x))
-        (λ x. inr (subst T (phase_meant s P.D v lo hi) x))
-        (was_before m.bit m.arms (m.arms v) (m'.arms v) m'.bit (subst (λ y. Goes m.bit m.arms (m.arms y) (m'.arms y) m'.bit) q change.goes) t'))
-        (λ ne. inl (subst T (phase_meant s P.W v lo hi) (subst (λ y. T (at P.W y)) (change.frame v (λ z. ne (sym z))) t')))
-        (cases_eq (arm_of c) v)
+        let x : Waiting (m.arms v) (m'.arms v) = ⊎_elim
+        (λ q. waiting_goes m.bit m.arms (m.arms v) (m'.arms v) m'.bit (subst (λ y. Goes m.bit m.arms (m.arms y) (m'.arms y) m'.bit) q change.goes))
+        (λ ne. subst (Waiting (m.arms v)) (sym (change.frame v (λ z. ne (sym z)))) (inl, inl))
+        (cases_eq (arm_of c) v) in
+        rw (sym ends_shown, sym enters_shown, sym (phase_meant s P.W v lo hi), sym (phase_meant (after door s c) P.W v lo (let z = after_n door s c in omega arith))) x
 
   -- the rules, along a history from s on
   abbrev pub Ruled : State At → Type 0
@@ -167,7 +170,7 @@ module _ {At : Type 0} (door : Table At) where
     abbrev start : State At
     start = made door memory high number wanted regs
 
-    start_fresh : (k : ℕ) → phase_at door start k ≡ P.I
+    pub start_fresh : (k : ℕ) → phase_at door start k ≡ P.I
     start_fresh k = go arm_limit (k - 1)
       where
         go : (n j : ℕ) → door.phase (get_or (replicate n (fresh door)) j (no_arm door)).position ≡ P.I

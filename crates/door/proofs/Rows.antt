@@ -1,4 +1,4 @@
--- A waiting arm's row and notes are what its history counts.
+-- The row and notes of an arm are what the history tells of its latest wait.
 use Rattle.std.proofs.Common.{◌≡◌, ℕ, ◌+◌, ◌-◌, ◌<◌, ◌≤◌, min, Bool, true, false, cond, not, ◌&&◌, T, eqb, ◌≢◌, ◌⊎◌, List, [], ◌∷◌, map, length, get_or, set, replicate, None, sym, refl, ap, ◌∙◌, subst, ⊎_elim, arith}
 use Rattle.std.proofs.lemmas.Grind.{get_or-set_at}
 use Rattle.std.proofs.lemmas.Bool.Decides.{nat_tests}
@@ -8,67 +8,88 @@ use Rattle.std.proofs.lemmas.List.{length-replicate, get_or-replicate, length-se
 use Rattle.door.specs.Limits.{arm_limit, tally_limit}
 use Rattle.door.specs.Arms.{no_arm}
 use Rattle.door.specs.States.{State, arm_at, phase_at, with_arm}
-use Rattle.door.specs.Calls.{refusal_of, unless, step_refusal, with_visit, arm_after, stepped, done, after, run}
-use Rattle.door.specs.History.{no_refusal, is_in, step_of, ends_doorway, goes_inside, count_on, latest_idle}
+use Rattle.door.specs.Calls.{refusal_of, step_refusal, with_visit, arm_after, stepped, done, after, run}
+use Rattle.door.specs.History.{no_refusal, is_in, step_of, steps, ends_doorway, goes_inside, entries_before, latest_lost, count_on, latest_idle}
 use Rattle.door.specs.declared.arm.Arm.{Arm}
 use Rattle.door.specs.declared.call.Call.{Call}
 use Rattle.door.specs.declared.call.Call.TheVariants.{Begin, Step, Admit, Confirm, Leave, Look, Tally, Way}
 use Rattle.door.proofs.Bools.{by, is_true}
-use Rattle.door.proofs.Tables.{getD_each}
 use Rattle.door.specs.Table.{Table}
 use Rattle.door.specs.Phases.{same_phase}
-use Rattle.door.specs.Tallies.{with_row, counted, is_idle, past_doorway, tallied}
+use Rattle.door.specs.Tallies.{with_row, counted, is_idle, tallied}
 use Rattle.door.specs.Rules.{Phased}
 use Rattle.door.specs.declared.phase.Phase.{Phase}
 use Rattle.door.specs.declared.phase.Phase.TheVariants as P
 use Rattle.door.proofs.Accepted.{known_arm, by_answer}
 use Rattle.door.proofs.Seen.{tallied_table}
-use Rattle.door.proofs.Passed.{Passed, passed_call, bound, before_waiting}
+use Rattle.door.proofs.Passed.{Passed, passed_call, bound, waiting_call}
 use Rattle.door.proofs.Runs.{after_n, after_length}
+
+-- what a call makes of the count r of b in w's latest wait, and of the count k since w ended its doorway:
+-- w ends its doorway by it (E), waited before it (V) and after it (W), or goes inside by it (I); b goes inside by it (G)
+module _ (E V W I G : Bool) (starts : T E → T W) (over : T I → T W → ⊥) (was : T W → T V ⊎ T E) (stays : T V → T W ⊎ T I) where
+  abbrev lost : ℕ → ℕ
+  lost r = cond E 0 (cond (G && (V && not I)) (r + 1) r)
+
+  abbrev since : ℕ → ℕ
+  since k = cond E 0 (cond G (k + 1) k)
+
+  -- with x still to come before w goes inside
+  onward : (r x : ℕ) → cond E x (cond V (r + cond I 0 (cond G 1 0 + x)) r) ≡ cond W (lost r + x) (lost r)
+  onward r x = grind arith
+
+  same_count : (r k : ℕ) → (T V → r ≡ k) → T W → lost r ≡ since k
+  same_count r k h t = grind arith
+
+  few_lost : (r k : ℕ) (d o : Bool) → (T V → r ≡ k) → (r ≤ 2) × (T o → r ≤ 1) → (T W → (since k ≤ 2) × (T (cond E d o) → since k ≤ 1))
+      → (lost r ≤ 2) × (T (cond E d o) → lost r ≤ 1)
+  few_lost r k d o h few bound = let x = same_count r k h in grind arith
+
+-- a record whose row and notes tell k and o of arm b
+pub record Row {At : Type 0} (b : ℕ) (a : Arm At) (k : ℕ) (o : Bool) : Type 0 where
+  pub full : length a.row ≡ arm_limit
+  pub count : get_or a.row (b - 1) 0 ≡ k
+  pub note : get_or a.notes (b - 1) false ≡ o
+
+-- the row and notes of w tell r and o of b, and while w waits r is k, the count since it ended its doorway
+pub record Kept {At : Type 0} (door : Table At) (w b : ℕ) (s : State At) (r k : ℕ) (o : Bool) : Type 0 where
+  pub row : Row b (arm_at door s w) r o
+  pub since : T (is_in door P.W s w) → r ≡ k
+  pub low : (r ≤ 2) × (T o → r ≤ 1)
 
 module _ {At : Type 0} (door : Table At) where
   -- what the tally makes of the record at its own place, and of one at another place
   abbrev own_row : ℕ → Phase → Phase → List (Arm At) → Arm At
   own_row k p q arms =
-      cond (same_phase p P.D && same_phase q P.W) (with_row (replicate arm_limit 0) (map (is_idle door) arms) (get_or arms k (no_arm door)))
-      (cond (same_phase p P.X && same_phase q P.I) (with_row (replicate arm_limit 0) (replicate arm_limit false) (get_or arms k (no_arm door))) (get_or arms k (no_arm door)))
+      cond (same_phase p P.D && same_phase q P.W) (with_row (replicate arm_limit 0) (map (is_idle door) arms) (get_or arms k (no_arm door))) (get_or arms k (no_arm door))
 
-  counted_own : (k : ℕ) (a : Arm At) → counted door k k a ≡ a
-  counted_own k a = grind (arith, nat_tests)
-
-  tallied_own : (k : ℕ) (p q : Phase) (arms : List (Arm At)) → k < length arms → get_or (tallied door k p q arms) k (no_arm door) ≡ own_row k p q arms
-  tallied_own k p q arms l = grind (arith, get_or-set_same, getD_each, counted_own)
+  tallied_own : (k : ℕ) (p q : Phase) (arms : List (Arm At)) → k < length arms → door.phase (get_or arms k (no_arm door)).position ≡ q
+      → get_or (tallied door k p q arms) k (no_arm door) ≡ own_row k p q arms
+  tallied_own k p q arms l e = grind (arith, get_or-set_same, get_or-map)
 
   tallied_other : (k : ℕ) (p q : Phase) (arms : List (Arm At)) (j : ℕ) → j < length arms → j ≢ k
-      → get_or (tallied door k p q arms) j (no_arm door) ≡ cond (same_phase p P.W && same_phase q P.F) (counted door k j (get_or arms j (no_arm door))) (get_or arms j (no_arm door))
-  tallied_other k p q arms j l ne = grind (arith, get_or-set_other, getD_each)
+      → get_or (tallied door k p q arms) j (no_arm door) ≡ cond (same_phase p P.W && same_phase q P.F) (counted door k (get_or arms j (no_arm door))) (get_or arms j (no_arm door))
+  tallied_other k p q arms j l ne = grind (arith, get_or-set_other, get_or-map)
 
 module _ {At : Type 0} (door : Table At) where
-  module _ (phased : Phased door) (w b n : ℕ) (wlo : 1 ≤ w) (whi : w ≤ n) (blo : 1 ≤ b) (bhi : b ≤ n) (few : n ≤ arm_limit) where
-    -- a record whose row and notes tell k and o of arm b while it waits
-    pub record Row (a : Arm At) (k : ℕ) (o : Bool) : Type 0 where
-      pub full : length a.row ≡ arm_limit
-      pub count : T (same_phase (door.phase a.position) P.W) → get_or a.row (b - 1) 0 ≡ k
-      pub note : T (same_phase (door.phase a.position) P.W) → get_or a.notes (b - 1) false ≡ o
-
-    kept : (a a' : Arm At) (k : ℕ) (o : Bool) → a'.row ≡ a.row → a'.notes ≡ a.notes → (T (same_phase (door.phase a'.position) P.W) → T (same_phase (door.phase a.position) P.W)) → Row a k o → Row a' k o
-    kept a a' k o er en f h = record {
+  module _ (w b n : ℕ) (wlo : 1 ≤ w) (whi : w ≤ n) (blo : 1 ≤ b) (bhi : b ≤ n) (few : n ≤ arm_limit) where
+    kept : (a a' : Arm At) (k : ℕ) (o : Bool) → a'.row ≡ a.row → a'.notes ≡ a.notes → Row b a k o → Row b a' k o
+    kept a a' k o er en h = record {
       full = ap length er ∙ h.full;
-      count = λ t. ap (λ y. get_or y (b - 1) 0) er ∙ h.count (f t);
-      note = λ t. ap (λ y. get_or y (b - 1) false) en ∙ h.note (f t);
+      count = ap (λ y. get_or y (b - 1) 0) er ∙ h.count;
+      note = ap (λ y. get_or y (b - 1) false) en ∙ h.note;
     }
 
     module _ (s : State At) (table : n ≤ length s.arms) where
       -- a call without an access
-      visit_row : (i : ℕ) (p : At) (v : ℕ) (m : Bool) (k : ℕ) (o : Bool) → (T (same_phase (door.phase p) P.W) → T (is_in door P.W s i)) → Row (arm_at door s w) k o
-          → Row (arm_at door (with_arm i (with_visit p v m (arm_at door s i)) s) w) k o
-      visit_row i p v m k o f h = ⊎_elim
+      visit_row : (i : ℕ) (p : At) (v : ℕ) (m : Bool) (k : ℕ) (o : Bool) → Row b (arm_at door s w) k o → Row b (arm_at door (with_arm i (with_visit p v m (arm_at door s i)) s) w) k o
+      visit_row i p v m k o h = ⊎_elim
           (λ q.
           let r : Arm At = with_visit p v m (arm_at door s i) in
           let e : arm_at door (with_arm i r s) w ≡ r = ap (λ j. get_or (set s.arms (i - 1) r) j (no_arm door)) q ∙ get_or-set_same s.arms (i - 1) r (no_arm door) (omega arith) in
           let was : arm_at door s i ≡ arm_at door s w = ap (λ j. get_or s.arms j (no_arm door)) (sym q) in
-          subst (λ a. Row a k o) (sym e) (kept (arm_at door s w) r k o (ap (λ a. a.row) was) (ap (λ a. a.notes) was) (λ t. subst (λ a. T (same_phase (door.phase a.position) P.W)) was (f t)) h))
-          (λ ne. subst (λ a. Row a k o) (sym (get_or-set_other s.arms (i - 1) (w - 1) _ (no_arm door) ne)) h)
+          subst (λ a. Row b a k o) (sym e) (kept (arm_at door s w) r k o (ap (λ a. a.row) was) (ap (λ a. a.notes) was) h))
+          (λ ne. subst (λ a. Row b a k o) (sym (get_or-set_other s.arms (i - 1) (w - 1) _ (no_arm door) ne)) h)
           (cases_eq (w - 1) (i - 1))
 
       module _ (i : ℕ) (lo : 1 ≤ i) (hi : i ≤ n) where
@@ -89,106 +110,117 @@ module _ {At : Type 0} (door : Table At) where
         phase_own : phase_at door (stepped door i s) i ≡ door.phase (arm_after door s i).position
         phase_own = ap door.phase (((tallied_table door (i - 1) (phase_at door s i) (door.phase (arm_after door s i).position) base).0 (i - 1)).0 ∙ ap (λ a. a.position) base_own)
 
+      -- the state t follows by a step of the arms that st tells: w ends its doorway, an arm v goes inside, b does while w waits on
+      abbrev ends : State At → (ℕ → Bool) → Bool
+      ends t st = st w && (is_in door P.D s w && is_in door P.W t w)
+
+      abbrev enters : ℕ → State At → (ℕ → Bool) → Bool
+      enters v t st = st v && (is_in door P.W s v && is_in door P.F t v)
+
+      abbrev passes : State At → (ℕ → Bool) → Bool
+      passes t st = enters b t st && (is_in door P.W s w && not (enters w t st))
+
+      abbrev Told : State At → (ℕ → Bool) → ℕ → Bool → Type 0
+      Told t st k o = Row b (arm_at door t w) (cond (ends t st) 0 (cond (passes t st) (k + 1) k)) (cond (ends t st) (is_in door P.I s b) o)
+
       -- the step of w itself
-      module _ (before : T (same_phase (door.phase (arm_after door s w).position) P.W) → T (is_in door P.W s w) ⊎ T (is_in door P.D s w)) (k : ℕ) (o : Bool) (h : Row (arm_at door s w) k o) where
+      module _ (k : ℕ) (o : Bool) (h : Row b (arm_at door s w) k o) where
         abbrev after_own : Phase
         after_own = door.phase (arm_after door s w).position
 
         idle_noted : T (is_in door P.D s w) → T (same_phase after_own P.W) → is_idle door (get_or (base w wlo whi) (b - 1) (no_arm door)) ≡ is_in door P.I s b
         idle_noted d t = let x = base_own w wlo whi in let y = base_other w wlo whi b blo in let c = cases_eq b w in grind arith
 
-        own_kept : (E X N : Bool) → (T E → T (is_in door P.D s w) × T (same_phase after_own P.W)) → (T (not E) → T (is_in door P.D s w) → T (same_phase after_own P.W) → ⊥)
-            → (T X → T (same_phase after_own P.I)) → (T N → T (same_phase after_own P.F))
-            → Row (cond E (with_row (replicate arm_limit 0) (map (is_idle door) (base w wlo whi)) (arm_after door s w)) (cond X (with_row (replicate arm_limit 0) (replicate arm_limit false) (arm_after door s w)) (arm_after door s w)))
-            (cond E 0 (cond N (k + 1) k)) (cond E (is_in door P.I s b) o)
-        own_kept true X N is_E not_E is_X is_N = record {
+        own_kept : (E : Bool) → (T E → T (is_in door P.D s w) × T (same_phase after_own P.W))
+            → Row b (cond E (with_row (replicate arm_limit 0) (map (is_idle door) (base w wlo whi)) (arm_after door s w)) (arm_after door s w)) (cond E 0 k) (cond E (is_in door P.I s b) o)
+        own_kept true is_E = record {
           full = length-replicate {A = ℕ} arm_limit 0;
-          count = λ t. get_or-replicate arm_limit (b - 1) 0 0 (omega arith);
-          note = λ t. get_or-map (is_idle door) (base w wlo whi) (b - 1) (no_arm door) false (let x = base_length w wlo whi in omega arith) ∙ idle_noted (is_E tt).0 (is_E tt).1;
+          count = get_or-replicate arm_limit (b - 1) 0 0 (omega arith);
+          note = get_or-map (is_idle door) (base w wlo whi) (b - 1) (no_arm door) false (let x = base_length w wlo whi in omega arith) ∙ idle_noted (is_E tt).0 (is_E tt).1;
         }
-        own_kept false true N is_E not_E is_X is_N = record { full = length-replicate {A = ℕ} arm_limit 0; count = λ t. grind arith; note = λ t. grind arith }
-        own_kept false false true is_E not_E is_X is_N = record { full = h.full; count = λ t. grind arith; note = λ t. grind arith }
-        own_kept false false false is_E not_E is_X is_N = kept (arm_at door s w) (arm_after door s w) k o refl refl
-            (λ t. let x = before t in let y = not_E tt in grind arith) h
+        own_kept false is_E = kept (arm_at door s w) (arm_after door s w) k o refl refl h
 
-        own_step : Row (arm_at door (stepped door w s) w)
-            (cond (eqb w w && (is_in door P.D s w && is_in door P.W (stepped door w s) w)) 0 (cond (eqb w b && (is_in door P.W s b && is_in door P.F (stepped door w s) b)) (k + 1) k))
-            (cond (eqb w w && (is_in door P.D s w && is_in door P.W (stepped door w s) w)) (is_in door P.I s b) o)
+        own_step : Told (stepped door w s) (λ v. eqb w v) k o
         own_step =
-            let N : Bool = eqb w b && (is_in door P.W s b && is_in door P.F (stepped door w s) b) in
-            let E : (eqb w w && (is_in door P.D s w && is_in door P.W (stepped door w s) w)) ≡ (is_in door P.D s w && same_phase after_own P.W) =
+            let ended : ends (stepped door w s) (λ v. eqb w v) ≡ (is_in door P.D s w && same_phase after_own P.W) =
             ap (λ x. x && (is_in door P.D s w && is_in door P.W (stepped door w s) w)) (is_true (eqb w w) (eqb_refl w)) ∙ ap (λ z. is_in door P.D s w && same_phase z P.W) (phase_own w wlo whi) in
-            let e : arm_at door (stepped door w s) w ≡ own_row door (w - 1) (phase_at door s w) after_own (base w wlo whi) = tallied_own door (w - 1) (phase_at door s w) after_own (base w wlo whi) (let x = base_length w wlo whi in omega arith) in
-            rw (E, e, base_own w wlo whi) (own_kept (is_in door P.D s w && same_phase after_own P.W) (is_in door P.X s w && same_phase after_own P.I) N
-            (λ t. grind arith) (λ d x y. grind arith) (λ t. grind arith) (λ t. let x = phase_own w wlo whi in grind (arith, nat_tests)))
+            let none : passes (stepped door w s) (λ v. eqb w v) ≡ false = grind (arith, nat_tests) in
+            let e : arm_at door (stepped door w s) w ≡ own_row door (w - 1) (phase_at door s w) after_own (base w wlo whi) =
+            tallied_own door (w - 1) (phase_at door s w) after_own (base w wlo whi) (let x = base_length w wlo whi in omega arith) (ap (λ a. door.phase a.position) (base_own w wlo whi)) in
+            rw (ended, none, e, base_own w wlo whi) (own_kept (is_in door P.D s w && same_phase after_own P.W) (λ t. grind arith))
 
       -- the step of another arm
-      module _ (i : ℕ) (lo : 1 ≤ i) (hi : i ≤ n) (ne : i ≢ w) (k : ℕ) (o : Bool) (low : T (is_in door P.W s w) → k ≤ 2) (h : Row (arm_at door s w) k o) where
-        other_count : (N : Bool) → (T N → i ≡ b) → (T (not N) → i ≢ b) → T (is_in door P.W s w)
+      module _ (i : ℕ) (lo : 1 ≤ i) (hi : i ≤ n) (ne : i ≢ w) (k : ℕ) (o : Bool) (low : k ≤ 2) (h : Row b (arm_at door s w) k o) where
+        other_count : (N : Bool) → (T N → i ≡ b) → (T (not N) → i ≢ b)
             → get_or (set (arm_at door s w).row (i - 1) (min (get_or (arm_at door s w).row (i - 1) 0 + 1) tally_limit)) (b - 1) 0 ≡ cond N (k + 1) k
-        other_count N f g t = let len = h.full in let was = h.count t in let bound = low t in grind (arith, nat_tests, get_or-set_at, get_or-set_other)
+        other_count N f g = let len = h.full in let was = h.count in grind (arith, nat_tests, get_or-set_at, get_or-set_other)
 
-        other_kept : (Z N : Bool) → (T N → (i ≡ b) × T Z) → (T (not N) → i ≡ b → T Z → ⊥)
-            → Row (cond Z (counted door (i - 1) (w - 1) (arm_at door s w)) (arm_at door s w)) (cond N (k + 1) k) o
+        -- it goes inside (Z), or not; where b does while w waits (N)
+        other_kept : (Z N : Bool) → (T N → (i ≡ b) × T Z × T (is_in door P.W s w)) → (T (not N) → i ≡ b → T Z → T (is_in door P.W s w) → ⊥)
+            → Row b (cond Z (counted door (i - 1) (arm_at door s w)) (arm_at door s w)) (cond N (k + 1) k) o
         other_kept false N is_N not_N = let x = is_N in grind arith
         other_kept true N is_N not_N =
-            let here : Bool = not (eqb (w - 1) (i - 1)) && past_doorway (phase_at door s w) in
-            by (λ a. Row a (cond N (k + 1) k) o) here (with_row (set (arm_at door s w).row (i - 1) (min (get_or (arm_at door s w).row (i - 1) 0 + 1) tally_limit)) (arm_at door s w).notes (arm_at door s w)) (arm_at door s w)
-            (λ _. record {
+            by (λ a. Row b a (cond N (k + 1) k) o) (is_in door P.W s w) (with_row (set (arm_at door s w).row (i - 1) (min (get_or (arm_at door s w).row (i - 1) 0 + 1) tally_limit)) (arm_at door s w).notes (arm_at door s w)) (arm_at door s w)
+            (λ t. record {
               full = length-set (arm_at door s w).row (i - 1) _ ∙ h.full;
-              count = other_count N (λ t. (is_N t).0) (λ d q. not_N d q tt);
+              count = other_count N (λ y. (is_N y).0) (λ d q. not_N d q tt t);
               note = h.note;
             })
-            (λ d. record { full = h.full; count = λ t. grind (arith, nat_tests); note = h.note })
+            (λ d. record { full = h.full; count = let x = is_N in let y = h.count in grind arith; note = h.note })
 
-        other_step : Row (arm_at door (stepped door i s) w)
-            (cond (eqb i w && (is_in door P.D s w && is_in door P.W (stepped door i s) w)) 0 (cond (eqb i b && (is_in door P.W s b && is_in door P.F (stepped door i s) b)) (k + 1) k))
-            (cond (eqb i w && (is_in door P.D s w && is_in door P.W (stepped door i s) w)) (is_in door P.I s b) o)
+        other_step : Told (stepped door i s) (λ v. eqb i v) k o
         other_step =
             let q : Phase = door.phase (arm_after door s i).position in
             let Z : Bool = is_in door P.W s i && same_phase q P.F in
-            let N : Bool = eqb i b && (is_in door P.W s b && is_in door P.F (stepped door i s) b) in
-            let E : (eqb i w && (is_in door P.D s w && is_in door P.W (stepped door i s) w)) ≡ false = grind (arith, nat_tests) in
-            let e : arm_at door (stepped door i s) w ≡ cond Z (counted door (i - 1) (w - 1) (arm_at door s w)) (arm_at door s w) =
+            let E : ends (stepped door i s) (λ v. eqb i v) ≡ false = grind (arith, nat_tests) in
+            let e : arm_at door (stepped door i s) w ≡ cond Z (counted door (i - 1) (arm_at door s w)) (arm_at door s w) =
             tallied_other door (i - 1) (phase_at door s i) q (base i lo hi) (w - 1) (let x = base_length i lo hi in omega arith) (omega arith)
-            ∙ ap (λ a. cond Z (counted door (i - 1) (w - 1) a) a) (base_other i lo hi w wlo (λ z. ne (sym z))) in
+            ∙ ap (λ a. cond Z (counted door (i - 1) a) a) (base_other i lo hi w wlo (λ z. ne (sym z))) in
             let x = phase_own i lo hi in
-            rw (E, e) (other_kept Z N (λ t. grind (arith, nat_tests)) (λ d ib z. grind (arith, nat_tests)))
+            rw (E, e) (other_kept Z (passes (stepped door i s) (λ v. eqb i v)) (λ t. grind (arith, nat_tests)) (λ d ib z t. grind (arith, nat_tests)))
 
       -- any call
-      abbrev Told : State At → (ℕ → Bool) → ℕ → Bool → Type 0
-      Told t st k o = Row (arm_at door t w)
-          (cond (st w && (is_in door P.D s w && is_in door P.W t w)) 0 (cond (st b && (is_in door P.W s b && is_in door P.F t b)) (k + 1) k))
-          (cond (st w && (is_in door P.D s w && is_in door P.W t w)) (is_in door P.I s b) o)
-
-      by_refusal : (c : Call) (k : ℕ) (o : Bool) → Row (arm_at door s w) k o → (refusal_of door s c ≡ None → Told (done door s c) (λ v. step_of v c) k o) → Told (after door s c) (λ v. no_refusal (refusal_of door s c) && step_of v c) k o
+      by_refusal : (c : Call) (k : ℕ) (o : Bool) → Row b (arm_at door s w) k o → (refusal_of door s c ≡ None → Told (done door s c) (λ v. step_of v c) k o) → Told (after door s c) (λ v. no_refusal (refusal_of door s c) && step_of v c) k o
       by_refusal c k o h f = by_answer (refusal_of door s c) (done door s c) s (λ t y. Told t (λ v. y && step_of v c) k o) f h
 
-      row_call : s.n ≡ n → (c : Call) → (T (is_in door P.W (after door s c) w) → T (is_in door P.W s w) ⊎ T (is_in door P.D s w)) → (k : ℕ) (o : Bool) → (T (is_in door P.W s w) → k ≤ 2) → Row (arm_at door s w) k o
-          → Row (arm_at door (after door s c) w) (cond (ends_doorway door w s c) 0 (cond (goes_inside door b s c) (k + 1) k)) (cond (ends_doorway door w s c) (is_in door P.I s b) o)
-      row_call sn (Begin i) before k o low h = by_refusal (Begin i) k o h (λ e. visit_row i door.entry _ _ k o (λ t. absurd (subst (λ z. T (same_phase z P.W)) phased.entry t)) h)
-      row_call sn (Admit i) before k o low h = by_refusal (Admit i) k o h (λ e. visit_row i (arm_at door s i).position _ _ k o (λ t. t) h)
-      row_call sn (Leave z i) before k o low h = by_refusal (Leave z i) k o h (λ e. visit_row i door.exit _ _ k o (λ t. absurd (subst (λ z. T (same_phase z P.W)) phased.exit t)) h)
-      row_call sn (Confirm z i) before k o low h = h
-      row_call sn (Look i) before k o low h = by_refusal (Look i) k o h (λ e. h)
-      row_call sn (Tally i j) before k o low h = by_refusal (Tally i j) k o h (λ e. h)
-      row_call sn (Way i) before k o low h = by_refusal (Way i) k o h (λ e. h)
-      row_call sn (Step i) before k o low h = by_refusal (Step i) k o h (λ e.
+      row_call : s.n ≡ n → (c : Call) (k : ℕ) (o : Bool) → k ≤ 2 → Row b (arm_at door s w) k o → Told (after door s c) (λ v. steps door v s c) k o
+      row_call sn (Begin i) k o low h = by_refusal (Begin i) k o h (λ e. visit_row i door.entry _ _ k o h)
+      row_call sn (Admit i) k o low h = by_refusal (Admit i) k o h (λ e. visit_row i (arm_at door s i).position _ _ k o h)
+      row_call sn (Leave z i) k o low h = by_refusal (Leave z i) k o h (λ e. visit_row i door.exit _ _ k o h)
+      row_call sn (Confirm z i) k o low h = h
+      row_call sn (Look i) k o low h = by_refusal (Look i) k o h (λ e. h)
+      row_call sn (Tally i j) k o low h = by_refusal (Tally i j) k o h (λ e. h)
+      row_call sn (Way i) k o low h = by_refusal (Way i) k o h (λ e. h)
+      row_call sn (Step i) k o low h = by_refusal (Step i) k o h (λ e.
           let r = known_arm s i (step_refusal (phase_at door s i)) e in
           let hi : i ≤ n = let y = r.1 in omega arith in
           ⊎_elim
-          (λ q. subst (λ j. Told (stepped door j s) (λ v. eqb j v) k o) (sym q)
-          (own_step (λ t. before (subst (λ z. T (same_phase z P.W)) (sym (stepped_phase i r.0 hi e q)) t)) k o h))
+          (λ q. subst (λ j. Told (stepped door j s) (λ v. eqb j v) k o) (sym q) (own_step k o h))
           (λ ne. other_step i r.0 hi ne k o low h) (cases_eq i w))
-        where
-          stepped_phase : (i : ℕ) → 1 ≤ i → i ≤ n → refusal_of door s (Step i) ≡ None → i ≡ w → phase_at door (after door s (Step i)) w ≡ door.phase (arm_after door s w).position
-          stepped_phase i lo hi e q =
-              ap (λ r. phase_at door (unless r (stepped door i s) s) w) e ∙ ap (λ j. phase_at door (stepped door j s) w) q ∙ phase_own w wlo whi
 
-    pub row_run : (cs : List Call) (s : State At) → s.n ≡ n → n ≤ length s.arms → (k : ℕ) (o : Bool) → Passed door w b s k o → Row (arm_at door s w) k o → Row (arm_at door (run door s cs) w) (count_on door w b s cs k) (latest_idle door w b s cs o)
-    row_run [] s sn table k o past h = h
-    row_run (c ∷ cs) s sn table k o past h =
-        let whi' : w ≤ s.n = omega arith in
-        let bhi' : b ≤ s.n = omega arith in
-        row_run cs (after door s c) (after_n door s c ∙ sn) (let x = after_length door s c in omega arith) _ _ (passed_call door phased w b wlo blo s whi' bhi' k o past c)
-        (row_call s table sn c (before_waiting door phased s c w wlo whi' (past.ruled [] c)) k o (λ t. (bound door w b s wlo whi' k o past t).0) h)
+    module _ (phased : Phased door) where
+      pub kept_run : (cs : List Call) (s : State At) → s.n ≡ n → n ≤ length s.arms → (r k : ℕ) (o : Bool) → Passed door w b s k o → Kept door w b s r k o
+          → Kept door w b (run door s cs) (latest_lost door w b s cs (cond (is_in door P.W s w) (r + entries_before door w b s cs) r)) (count_on door w b s cs k) (latest_idle door w b s cs o)
+      kept_run [] s sn table r k o past h = let e : cond (is_in door P.W s w) (r + 0) r ≡ r = grind arith in rw e h
+      kept_run (c ∷ cs) s sn table r k o past h =
+          let t = after door s c in
+          let E = ends_doorway door w s c in
+          let I = goes_inside door w s c in
+          let G = goes_inside door b s c in
+          let V = is_in door P.W s w in
+          let W = is_in door P.W t w in
+          let whi' : w ≤ s.n = omega arith in
+          let bhi' : b ≤ s.n = omega arith in
+          let moves = waiting_call door phased s c w wlo whi' (past.ruled [] c) in
+          let starts : T E → T W = λ x. grind arith in
+          let over : T I → T W → ⊥ = λ x y. grind arith in
+          let past' = passed_call door phased w b wlo blo s whi' bhi' k o past c in
+          let bound' = bound door w b t wlo (let z = after_n door s c in omega arith) _ _ past' in
+          let x = entries_before door w b t cs in
+          rw (onward E V W I G starts over moves.0 moves.1 r x)
+          (kept_run cs t (after_n door s c ∙ sn) (let z = after_length door s c in omega arith) _ _ _ past'
+          (record {
+            row = row_call s table sn c r o h.low.0 h.row;
+            since = same_count E V W I G starts over moves.0 moves.1 r k h.since;
+            low = few_lost E V W I G starts over moves.0 moves.1 r k (is_in door P.I s b) o h.since h.low bound';
+          }))

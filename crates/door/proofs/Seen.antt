@@ -1,12 +1,12 @@
 -- The tally leaves each record's position, side, mark and visits.
-use Rattle.std.proofs.Common.{◌≡◌, ℕ, zero, suc, Bool, List, [], ◌∷◌, length, get_or, set, refl, arith}
-use Rattle.std.proofs.lemmas.List.{length-set, get_or-set_same, get_or-set_other, set_past}
+use Rattle.std.proofs.Common.{◌≡◌, ℕ, Bool, List, length, get_or, set, refl, arith}
+use Rattle.std.proofs.lemmas.List.{length-set, length-map, get_or-set_same, get_or-set_other, set_past}
 use Rattle.door.specs.Table.{Table}
 use Rattle.door.specs.Arms.{no_arm}
-use Rattle.door.specs.Tallies.{with_row, counted, each, tallied}
+use Rattle.door.specs.Tallies.{with_row, counted, tallied}
 use Rattle.door.specs.declared.arm.Arm.{Arm}
 use Rattle.door.specs.declared.phase.Phase.{Phase}
-use Rattle.door.proofs.Tables.{length_each, tallied_holds}
+use Rattle.door.proofs.Tables.{kept_map, tallied_holds}
 
 abbrev pub Seen : {At : Type 0} → Arm At → Arm At → Type 0
 Seen a b = (a.position ≡ b.position) × (a.side ≡ b.side) × (a.out ≡ b.out) × (a.visits ≡ b.visits)
@@ -15,13 +15,8 @@ module _ {At : Type 0} (door : Table At) where
   row_seen : (r : List ℕ) (t : List Bool) (k : ℕ) (arms : List (Arm At)) (j : ℕ) → Seen (get_or (set arms k (with_row r t (get_or arms k (no_arm door)))) j (no_arm door)) (get_or arms j (no_arm door))
   row_seen r t k arms j = grind (arith, get_or-set_same, get_or-set_other, set_past)
 
-  counted_seen : (b k : ℕ) (a : Arm At) → Seen (counted door b k a) a
-  counted_seen b k a = grind arith
-
-  each_seen : (f : ℕ → Arm At → Arm At) → ((k : ℕ) (a : Arm At) → Seen (f k a) a) → (k : ℕ) (arms : List (Arm At)) (j : ℕ) → Seen (get_or (each f k arms) j (no_arm door)) (get_or arms j (no_arm door))
-  each_seen f h k [] j = (refl, refl, refl, refl)
-  each_seen f h k (a ∷ more) zero = h k a
-  each_seen f h k (a ∷ more) (suc j) = each_seen f h (suc k) more j
+  counted_seen : (b : ℕ) (a : Arm At) → Seen (counted door b a) a
+  counted_seen b a = grind arith
 
   abbrev pub SameTable : List (Arm At) → List (Arm At) → Type 0
   SameTable new old = ((j : ℕ) → Seen (get_or new j (no_arm door)) (get_or old j (no_arm door))) × (length new ≡ length old)
@@ -34,4 +29,4 @@ module _ {At : Type 0} (door : Table At) where
 
   pub tallied_table : (k : ℕ) (p q : Phase) (arms : List (Arm At)) → SameTable (tallied door k p q arms) arms
   tallied_table k p q arms = tallied_holds door (λ rs. SameTable rs arms) k p q arms (same_table arms) (row_table _ _ k arms)
-      (each_seen (counted door k) (counted_seen k) 0 arms, length_each (counted door k) 0 arms) (row_table _ _ k arms)
+      (kept_map Seen (counted door k) (no_arm door) (refl, refl, refl, refl) (counted_seen k) arms, length-map arms (counted door k))

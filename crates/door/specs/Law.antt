@@ -3,7 +3,7 @@ use Rattle.std.specs.Prelude.{◌≡◌, ℕ, ◌+◌, ◌-◌, ◌*◌, ◌≤�
 use Rattle.door.specs.Table.{Table}
 use Rattle.door.specs.States.{State, made, is_arm, arm_at}
 use Rattle.door.specs.Calls.{run, has_way}
-use Rattle.door.specs.History.{Waits, RightOfWay, bit_read, entries_since, idle_then, Rounds, GoesInside}
+use Rattle.door.specs.History.{Waits, RightOfWay, bit_read, entries_since, idle_then, lost_to, Rounds, GoesInside}
 use Rattle.door.specs.Rules.{Always}
 use Rattle.door.specs.declared.call.Call.{Call}
 use Rattle.door.specs.declared.refusal.Refusal.{Refusal}
@@ -32,6 +32,17 @@ module _ {At : Type 0} (door : Table At) where
   abbrev pub NotesTell : State At → List Call → State At → Type 0
   NotesTell start past s = (w b : ℕ) → Waits door s w → T (is_arm s b) → slice_index_or (arm_at door s w).notes (b - 1) false ≡ idle_then door w b start past
 
+  -- the row of any arm, whatever its phase, counts the entries while it last waited, and its notes say who was idle when that wait began
+  abbrev pub RowKept : State At → List Call → State At → Type 0
+  RowKept start past s = (w b : ℕ) → T (is_arm s w) → T (is_arm s b) → slice_index (arm_at door s w).row (b - 1) ≡ lost_to door w b start past
+
+  abbrev pub NotesKept : State At → List Call → State At → Type 0
+  NotesKept start past s = (w b : ℕ) → T (is_arm s w) → T (is_arm s b) → slice_index_or (arm_at door s w).notes (b - 1) false ≡ idle_then door w b start past
+
+  -- so no arm loses more than two to another, and no more than one to an arm that was idle then
+  abbrev pub LostAtMostTwice : State At → List Call → State At → Type 0
+  LostAtMostTwice start past s = (w b : ℕ) → T (is_arm s w) → T (is_arm s b) → (lost_to door w b start past ≤ 2) × (T (idle_then door w b start past) → lost_to door w b start past ≤ 1)
+
   -- a waiting arm goes inside within 50 n + 10 rounds, whatever else is called
   abbrev pub AllInside : State At → Type 0
   AllInside s = (w : ℕ) → Waits door s w → (further : List Call) → Rounds door (50 * s.n + 10) s further → GoesInside door w s further
@@ -47,6 +58,9 @@ pub record PassingBound {At : Type 0} (door : Table At) : Type 0 where
   pub itself : Always door (NotItself door)
   pub row : Always door (RowCounts door)
   pub notes : Always door (NotesTell door)
+  pub row_kept : Always door (RowKept door)
+  pub notes_kept : Always door (NotesKept door)
+  pub lost : Always door (LostAtMostTwice door)
 
 -- what a door shows by an argument of its own: right of way, and going inside
 pub record ShowsWay {At : Type 0} (door : Table At) : Type 0 where
@@ -62,6 +76,9 @@ pub record Fair {At : Type 0} (door : Table At) (start : State At) (past : List 
   pub itself : NotItself door start past s
   pub row : RowCounts door start past s
   pub notes : NotesTell door start past s
+  pub row_kept : RowKept door start past s
+  pub notes_kept : NotesKept door start past s
+  pub lost : LostAtMostTwice door start past s
   pub rounds : AllInside door s
   pub told : WayTold door s
 

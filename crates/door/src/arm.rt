@@ -15,9 +15,9 @@ pub struct Arm<P> {
     pub visits: u32,
     /// Whether the arm's pass is out.
     pub out: bool,
-    /// How often each other arm went inside past this one; a count stops at 255.
+    /// How often each other arm went inside while this one waited, the last time that it did; a count stops at 255.
     pub row: [u8; ARM_LIMIT],
-    /// Which arms were idle when this one ended its doorway.
+    /// Which arms were idle when that wait began, at the end of the doorway.
     pub notes: [bool; ARM_LIMIT],
 }
 

@@ -1,9 +1,9 @@
--- Two histories of the three-bit door, worked out.
+-- Three histories of the three-bit door, worked out.
 use Rattle.std.proofs.Common.{◌≡◌, ℕ, true, false, List, [], ◌∷◌, ◌++◌, get_or, replicate, refl}
 use Rattle.door.specs.Making.{largest}
 use Rattle.door.specs.States.{State, made, arm_at, phase_at}
 use Rattle.door.specs.Calls.{run, has_way}
-use Rattle.door.specs.History.{bit_read, entries_since, idle_then}
+use Rattle.door.specs.History.{bit_read, entries_since, idle_then, lost_to}
 use Rattle.door.specs.declared.call.Call.{Call}
 use Rattle.door.specs.declared.call.Call.TheVariants.{Begin as begin, Step as step, Admit as admit, Leave as leave}
 use Rattle.door.specs.declared.phase.Phase.TheVariants as P
@@ -67,3 +67,25 @@ busy_then = refl
 idle_third : idle_then three_bits 1 3 second two_past ≡ true
 unfolding largest
 idle_third = refl
+
+-- arms 1 and 2 wait, 1 goes inside and then 2, and both leave
+abbrev both_past : List Call
+both_past = begin 1 ∷ [] ++ steps_of 1 5 ++ (begin 2 ∷ []) ++ steps_of 2 5 ++ steps_of 1 6 ++ steps_of 2 6
+    ++ (admit 1 ∷ leave 0 1 ∷ []) ++ steps_of 1 2 ++ (admit 2 ∷ leave 0 2 ∷ []) ++ steps_of 2 2
+
+-- 2 went inside since 1 ended its doorway, but 1 was inside by then and lost nothing
+past_one_inside : entries_since three_bits 1 2 first both_past ≡ 1
+unfolding largest
+past_one_inside = refl
+
+lost_by_one : lost_to three_bits 1 2 first both_past ≡ 0
+unfolding largest
+lost_by_one = refl
+
+lost_by_two : lost_to three_bits 2 1 first both_past ≡ 1
+unfolding largest
+lost_by_two = refl
+
+row_of_idle : get_or (arm_at three_bits (run three_bits first both_past) 2).row 0 0 ≡ 1
+unfolding largest
+row_of_idle = refl

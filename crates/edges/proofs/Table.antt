@@ -23,7 +23,7 @@ use Rattle.play.specs.Reports.{fault_text, layer_word}
 use Rattle.play.specs.Text.{overwritten}
 use Rattle.three_bits.specs.Positions.{three_bits}
 use Rattle.four_valued.specs.Positions.{four_valued}
-use Rattle.edges.specs.Cases.{Case, writes, reads, opens, fails, tells, plays, gives, bars, accepts, refuses, frees, counts, turned, Plays, Holds, EachHolds}
+use Rattle.edges.specs.Cases.{Case, writes, reads, opens, fails, tells, plays, gives, bars, accepts, refuses, frees, counts, notes, turned, Plays, Holds, EachHolds}
 use Rattle.edges.specs.ThreeBitCases as T
 use Rattle.edges.specs.FourValuedCases as V
 use Rattle.edges.specs.EveryCase.{EveryCase}
@@ -125,6 +125,9 @@ number_test number r = eqb (refusal_number r) number
 abbrev count_test : ℕ → Tally → Bool
 count_test times c = eqb c.count times
 
+abbrev note_test : Bool → Tally → Bool
+note_test idle c = same_bool idle c.idle
+
 -- a play with room for a report obeys what the file says
 played : (file memory : List ℕ) → leb (length file) file_limit ≡ true → report_room ≤ length memory → playable file (length memory) ≡ says file
 played file memory short room = cond-true _ _ _ short ∙ cond-true _ _ _ (le-leb report_room (length memory) room)
@@ -149,6 +152,7 @@ module _ {At : Type 0} (door : Table At) (highest : ℕ) (registers : List ℕ) 
   test lent (refuses s call number) = some_test (number_test number) (refusal_of door s call)
   test lent (frees s i free) = ok_test (same_bool free) (way_answer door s i)
   test lent (counts s w b times) = ok_test (count_test times) (tally_answer door s w b)
+  test lent (notes s w b idle) = ok_test (note_test idle) (tally_answer door s w b)
   test lent (turned s times) = eqb s.turns times
 
   -- and comes to its report
@@ -184,6 +188,7 @@ module _ {At : Type 0} (door : Table At) (highest : ℕ) (registers : List ℕ) 
   sound (frees s i free) t =
       let h = is_ok {P = λ b. b ≡ free} (same_bool free) (is_bool free) (way_answer door s i) (t 0) in h.1 ∙ ap Ok h.2
   sound (counts s w b times) t = is_ok (count_test times) (λ c. eqb-true c.count times) (tally_answer door s w b) (t 0)
+  sound (notes s w b idle) t = is_ok (note_test idle) (λ c. is_bool idle c.idle) (tally_answer door s w b) (t 0)
   sound (turned s times) t = eqb-true s.turns times (t 0)
 
   -- every case of a list passes, so each holds

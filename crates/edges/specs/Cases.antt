@@ -42,8 +42,10 @@ pub data Case (At : Type 0) : Type 0 where
   refuses : State At → Call → ℕ → Case At
   -- a gate and a waiting arm: whether its way is free
   frees : State At → ℕ → Bool → Case At
-  -- a gate, an arm and another: how often the other went inside past it
+  -- a gate, an arm and another: how often the other went inside while it last waited
   counts : State At → ℕ → ℕ → ℕ → Case At
+  -- a gate, an arm and another: whether the other was idle when it ended its doorway
+  notes : State At → ℕ → ℕ → Bool → Case At
   -- a gate: how often its bit turned
   turned : State At → ℕ → Case At
 
@@ -81,6 +83,7 @@ module _ {At : Type 0} (door : Table At) (highest : ℕ) (registers : List ℕ) 
   Holds (refuses s call number) = (r : Refusal) × (refusal_of door s call ≡ Some r) × (refusal_number r ≡ number)
   Holds (frees s i free) = way_answer door s i ≡ Ok free
   Holds (counts s w b times) = (t : Tally) × (tally_answer door s w b ≡ Ok t) × (t.count ≡ times)
+  Holds (notes s w b idle) = (t : Tally) × (tally_answer door s w b ≡ Ok t) × (t.idle ≡ idle)
   Holds (turned s times) = s.turns ≡ times
 
   -- each case of a table holds

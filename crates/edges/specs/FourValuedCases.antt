@@ -1,13 +1,13 @@
 -- The edge cases of the four-valued door, over a bank of as many bytes as the most arms take.
-use Rattle.std.specs.Prelude.{ℕ, true, List, [], ◌∷◌, replicate}
+use Rattle.std.specs.Prelude.{ℕ, true, false, List, [], ◌∷◌, replicate}
 use Rattle.door.specs.Limits.{arm_limit}
 use Rattle.door.specs.States.{State}
 use Rattle.door.specs.declared.call.Call.TheVariants.{Begin as begin, Way as way}
 use Rattle.four_valued.specs.Positions.{four_valued}
 use Rattle.four_valued.specs.declared.position.FourValued.{FourValued}
 use Rattle.edges.specs.Cases as C
-use Rattle.edges.specs.Cases.{Case, plays, gives, bars, accepts, refuses, frees, counts, turned}
-use Rattle.edges.specs.Stories.{two_arms, three_inside, three_gone, one_waits, two_inside, two_gone, two_again, turned_back}
+use Rattle.edges.specs.Cases.{Case, plays, gives, bars, accepts, refuses, frees, counts, notes, turned}
+use Rattle.edges.specs.Stories.{two_arms, both_inside, past_leaving, both_gone, begun_again, three_inside, three_gone, one_waits, two_inside, two_gone, two_again, turned_back}
 
 abbrev pub highest : ℕ
 highest = 255
@@ -28,11 +28,18 @@ table =
     ∷ plays (two_arms 3) "arms 2 orders 18 refused 1 bit 1\n1 I - 1 0\n2 W 0 1 1\n"
     ∷ frees (gate_after 2 (two_arms 3)) 2 true
     ∷ refuses (gate_after 2 (two_arms 3)) (way 1) 6
+    ∷ plays (both_inside 3) "arms 2 orders 20 refused 0 bit 0\n1 F 0 1 0\n2 F 0 1 1\n"
+    ∷ plays (past_leaving 3) "arms 2 orders 21 refused 0 bit 0\n1 X 0 1 0\n2 F 0 1 1\n"
+    ∷ plays (both_gone 3) "arms 2 orders 26 refused 0 bit 1\n1 I - 1 0\n2 I - 1 1\n"
+    ∷ plays (begun_again 3) "arms 2 orders 27 refused 0 bit 1\n1 I - 1 0\n2 D - 2 1\n"
+    ∷ counts (gate_after 2 (both_gone 3)) 2 1 1
+    ∷ notes (gate_after 2 (both_gone 3)) 1 2 true
+    ∷ notes (gate_after 2 (both_gone 3)) 2 1 false
     ∷ plays (three_inside 3) "arms 3 orders 17 refused 0 bit 0\n1 I - 0 0\n2 W 0 1 1\n3 F 0 1 0\n"
     ∷ plays (three_gone 3) "arms 3 orders 20 refused 0 bit 1\n1 I - 0 0\n2 W 0 1 1\n3 I - 1 0\n"
     ∷ plays (one_waits 3) "arms 3 orders 24 refused 0 bit 1\n1 W 1 1 0\n2 W 0 1 1\n3 I - 1 0\n"
     ∷ plays (two_inside 3) "arms 3 orders 25 refused 0 bit 1\n1 W 1 1 1\n2 F 0 1 1\n3 I - 1 0\n"
-    ∷ plays (two_gone 3) "arms 3 orders 28 refused 0 bit 1\n1 W 1 1 1\n2 I - 1 0\n3 I - 1 0\n"
+    ∷ plays (two_gone 3) "arms 3 orders 28 refused 0 bit 1\n1 W 1 1 1\n2 I - 1 1\n3 I - 1 0\n"
     ∷ plays (two_again 3 9) "arms 3 orders 41 refused 0 bit 1\n1 W 1 1 2\n2 F 1 2 0\n3 I - 1 0\n"
     ∷ counts (gate_after 3 (two_again 3 9)) 1 2 2
     ∷ turned (gate_after 2 (two_arms 3)) 1

@@ -8,6 +8,26 @@ module _ (doorway : ℕ) where
   two_arms =
       0x02 ∷ 0x04 ∷ replicate doorway 0x05 ++ 0x08 ∷ replicate doorway 0x09 ++ replicate 6 0x05 ++ 0x06 ∷ replicate 3 0x05
 
+  -- the same two arms wait
+  abbrev pub both_wait : List ℕ
+  both_wait = 0x02 ∷ 0x04 ∷ replicate doorway 0x05 ++ 0x08 ∷ replicate doorway 0x09
+
+  -- then 1 goes inside, and then 2
+  abbrev pub both_inside : List ℕ
+  both_inside = both_wait ++ replicate 6 0x05 ++ replicate 6 0x09
+
+  -- or 1 is told to leave before 2 goes inside
+  abbrev pub past_leaving : List ℕ
+  past_leaving = both_wait ++ replicate 6 0x05 ++ 0x06 ∷ replicate 6 0x09
+
+  -- where both are inside, both leave
+  abbrev pub both_gone : List ℕ
+  both_gone = both_inside ++ 0x06 ∷ 0x05 ∷ 0x05 ∷ 0x0A ∷ 0x09 ∷ 0x09 ∷ []
+
+  -- then 2 begins its next visit
+  abbrev pub begun_again : List ℕ
+  begun_again = both_gone ++ 0x08 ∷ []
+
   -- of three arms, 3 goes inside while 2 waits
   abbrev pub three_inside : List ℕ
   three_inside = 0x03 ∷ 0x08 ∷ replicate doorway 0x09 ++ 0x0C ∷ replicate (doorway + 9) 0x0D

@@ -14,5 +14,5 @@ pub fn edge_cases() -> usize
     ensures each { EveryCase }
 {
     each_holds();
-    64
+    78
 }

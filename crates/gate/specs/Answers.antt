@@ -53,6 +53,6 @@ module _ {At : Type 0} (door : Table At) where
   abbrev pub tally_answer : State At → ℕ → ℕ → Result Tally Refusal
   tally_answer s w b = answered (refusal_of door s (tally w b)) (tally_of (arm_at door s w) b)
 
-  -- the most that any arm went inside past arm w
+  -- the most that any arm went inside while arm w last waited
   abbrev pub most_answer : State At → ℕ → Result ℕ Refusal
   most_answer s w = answered (refusal_of door s (look w)) (largest_count (arm_at door s w).row s.n)

@@ -45,7 +45,7 @@ pub struct View {
 /// What tally tells of two arms.
 #[derive(Clone, Copy, Debug, PartialEq, Eq)]
 pub struct Tally {
-    /// How often the other went inside past the first; the count stops at 255.
+    /// How often the other went inside while the first waited, the last time that it did; the count stops at 255.
     pub count: u8,
     /// Whether the other was idle when the first ended its doorway.
     pub idle: bool,

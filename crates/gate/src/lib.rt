@@ -17,7 +17,7 @@ mod passing;
 mod watching;
 // Right of way.
 mod way;
-// How often each arm went inside past another.
+// How often each arm went inside while another waited.
 mod rows;
 // A gate that carries out a list of calls.
 mod carrying;

@@ -1,37 +1,30 @@
 ghost use Rattle.std.specs.Prelude.{◌≡◌, ◌<◌, ◌≤◌, map, length};
 ghost use Rattle.door.specs.Limits.{arm_limit};
 ghost use Rattle.gate.specs.Answers.{largest_count};
-ghost use Rattle.door.specs.Tallies.{past_doorway, counted, each, is_idle, row_started, row_cleared, tallied};
+ghost use Rattle.door.specs.Tallies.{counted, is_idle, row_started, tallied};
 
 use door::Phase;
 use door::arm::{ARM_LIMIT, Arm};
 use doors::Door;
 
-// Whether an arm in this phase counts the entries of others: in W, F or X.
-fn counts(phase: Phase) -> bool
-    ensures { result ≡ past_doorway phase }
-{
-    matches!(phase, Phase::W | Phase::F | Phase::X)
-}
-
-// The arm at b went inside: the record at k, of another arm past its doorway, adds 1 for it.
-fn count<D: Door>(arm: &mut Arm<D>, k: usize, b: usize)
+// The arm at b went inside: an arm that waits adds 1 for it.
+fn count<D: Door>(arm: &mut Arm<D>, b: usize)
     requires { b < arm_limit }
-    ensures { arm.new ≡ counted D.table b k arm.old }
+    ensures { arm.new ≡ counted D.table b arm.old }
 {
-    if k != b && counts(arm.position.phase()) {
+    if arm.position.phase() == Phase::W {
         arm.row[b] = arm.row[b].saturating_add(1);
     }
 }
 
-// The arm at b went inside: each other arm past its doorway adds 1 for it.
+// The arm at b went inside: each arm that waits adds 1 for it.
 fn count_entry<D: Door>(arms: &mut [Arm<D>; ARM_LIMIT], b: usize)
     requires { b < arm_limit }
-    ensures after { arms.new ≡ each (counted D.table b) 0 arms.old }
+    ensures after { arms.new ≡ map (counted D.table b) arms.old }
     ensures full { length arms.new ≡ arm_limit }
 {
-    for (k, arm) in arms.iter_mut().enumerate() {
-        count(arm, k, b);
+    for arm in arms.iter_mut() {
+        count(arm, b);
     }
 }
 
@@ -58,20 +51,8 @@ fn start_row<D: Door>(arms: &mut [Arm<D>; ARM_LIMIT], k: usize)
     };
 }
 
-// The arm at k ended its visit: its row and notes are cleared.
-fn clear_row<D: Door>(arms: &mut [Arm<D>; ARM_LIMIT], k: usize)
-    requires { k < arm_limit }
-    ensures { arms.new ≡ row_cleared D.table k arms.old }
-{
-    arms[k] = Arm {
-        row: [0; ARM_LIMIT],
-        notes: [false; ARM_LIMIT],
-        ..arms[k]
-    };
-}
-
-// The arm at k went from one phase to another. A row starts at the end of the doorway and is cleared at the end of the visit;
-// an arm that goes inside is counted.
+// The arm at k went from one phase to another. At the end of its doorway its row starts; when it goes inside the arms that wait
+// count it. The rest of its visit leaves all rows, so that its own tells of this visit until the next one's doorway ends.
 pub(crate) fn follow<D: Door>(arms: &mut [Arm<D>; ARM_LIMIT], k: usize, from: Phase, to: Phase)
     requires { k < arm_limit }
     ensures rows { arms.new ≡ tallied D.table k from to arms.old }
@@ -84,7 +65,6 @@ pub(crate) fn follow<D: Door>(arms: &mut [Arm<D>; ARM_LIMIT], k: usize, from: Ph
     match (from, to) {
         (Phase::D, Phase::W) => start_row(arms, k),
         (Phase::W, Phase::F) => count_entry(arms, k),
-        (Phase::X, Phase::I) => clear_row(arms, k),
         _ => {}
     }
 }

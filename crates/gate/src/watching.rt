@@ -46,8 +46,8 @@ impl<B: Bank, D: Door> Gate<B, D> {
         })
     }
 
-    /// How often the other arm went inside past this one, and whether it was idle when this one ended its doorway.
-    /// Refuses with 1, for either arm.
+    /// How often the other arm went inside while this one waited, the last time that it did, and whether it was idle when that wait
+    /// began: so of an idle arm what it lost by its last visit. Refuses with 1, for either arm.
     #[tactic(auto, using(crate::proofs::Told::tally_told))]
     pub fn tally(&self, arm: usize, other: usize) -> Result<Tally, Refusal>
         ensures { result ≡ tally_answer D.table self.now arm other }
@@ -60,7 +60,8 @@ impl<B: Bank, D: Door> Gate<B, D> {
         })
     }
 
-    /// The most that any arm went inside past this one: the largest count of its row, 255 at most. Refuses with 1.
+    /// The most that any arm went inside while this one waited, the last time that it did: the largest count of its row.
+    /// Refuses with 1.
     pub fn most_passed(&self, arm: usize) -> Result<u8, Refusal>
         ensures { result ≡ most_answer D.table self.now arm }
     {
