@@ -2,6 +2,7 @@
 pub mod Bools
 pub mod Tables
 pub mod Registers
+pub mod Rests
 pub mod Rooms
 -- what an accepted call says of its arm, what a tally leaves, and what no call alters
 pub mod Accepted

@@ -24,7 +24,7 @@ module _ {At : Type 0} (door : Table At) where
   same_table : (arms : List (Arm At)) → SameTable arms arms
   same_table arms = ((λ j. (refl, refl, refl, refl)), refl)
 
-  row_table : (r : List ℕ) (t : List Bool) (k : ℕ) (arms : List (Arm At)) → SameTable (set arms k (with_row r t (get_or arms k (no_arm door)))) arms
+  pub row_table : (r : List ℕ) (t : List Bool) (k : ℕ) (arms : List (Arm At)) → SameTable (set arms k (with_row r t (get_or arms k (no_arm door)))) arms
   row_table r t k arms = (row_seen r t k arms, length-set arms k _)
 
   pub tallied_table : (k : ℕ) (p q : Phase) (arms : List (Arm At)) → SameTable (tallied door k p q arms) arms

@@ -1,5 +1,5 @@
 -- The turns of a gate are those of its history; an arm turns the bit at most once a visit, so that they are few.
-use Rattle.std.proofs.Common.{◌≡◌, ℕ, zero, suc, ◌+◌, ◌*◌, ◌-◌, ◌≤◌, Bool, true, false, cond, not, ◌&&◌, T, eqb, leb, List, [], ◌∷◌, length, get_or, set, sym, refl, ap, ◌∙◌, subst, ⊎_elim, arith}
+use Rattle.std.proofs.Common.{◌≡◌, ℕ, zero, suc, ◌+◌, ◌*◌, ◌-◌, ◌≤◌, Bool, true, false, cond, not, ◌&&◌, T, eqb, leb, List, [], ◌∷◌, length, get_or, set, None, sym, refl, ap, ◌∙◌, subst, ⊎_elim, arith}
 use Rattle.std.proofs.lemmas.Bool.{cases_eq}
 use Rattle.std.proofs.lemmas.Bool.Decides.{nat_tests}
 use Rattle.std.proofs.lemmas.Grind.{not_there}
@@ -11,11 +11,11 @@ use Rattle.door.specs.Table.{Table}
 use Rattle.door.specs.Tallies.{tallied}
 use Rattle.door.specs.Arms.{no_arm}
 use Rattle.door.specs.States.{State, made, is_arm, arm_at, phase_at, with_arm}
-use Rattle.door.specs.Calls.{refusal_of, step_refusal, with_visit, access_at, arm_after, stepped, done, after, run}
+use Rattle.door.specs.Calls.{refusal_of, step_refusal, with_visit, access_at, arm_after, stepped, done, after, unless, run}
 use Rattle.door.specs.History.{is_in, step_of}
-use Rattle.door.specs.Law.{IsReached}
+use Rattle.door.specs.Law.{Origin, IsReached}
 use Rattle.door.specs.Meaning.{Stage, resting, turned, at, meaning_of, arm_of}
-use Rattle.door.specs.Rules.{Phased, Always, ShowsRules, ShowsBits, AreBits}
+use Rattle.door.specs.Rules.{Phased, Always, Keeps, ShowsRules, ShowsBits, AreBits}
 use Rattle.door.specs.Turns.{turns, turns_in, turns_by, TurnsTold, TurnsLaw}
 use Rattle.door.specs.declared.access.Access.{Access}
 use Rattle.door.specs.declared.arm.Arm.{Arm}
@@ -23,10 +23,11 @@ use Rattle.door.specs.declared.call.Call.{Call}
 use Rattle.door.specs.declared.call.Call.TheVariants.{Begin, Step, Admit, Leave}
 use Rattle.door.specs.declared.phase.Phase.{Phase}
 use Rattle.door.specs.declared.phase.Phase.TheVariants as P
-use Rattle.door.proofs.Bools.{test, clash}
+use Rattle.door.proofs.Bools.{test, clash, none_of, is_true, is_false}
 use Rattle.door.proofs.Accepted.{unless_both, for_arm_none, known_arm, step_none, arm_in}
 use Rattle.door.proofs.Bounds.{run_bounded, made_bounded}
 use Rattle.door.proofs.Changes.{Goes, Change, change_of}
+use Rattle.door.proofs.Origins.{origin_after}
 use Rattle.door.proofs.Passed.{Ruled, phase_meant, two_phases, record_set, start_rests}
 use Rattle.door.proofs.Rooms.{arms_few}
 use Rattle.door.proofs.Runs.{after_n, run_n}
@@ -240,3 +241,32 @@ module _ {At : Type 0} (door : Table At) (phased : Phased door) (rules : ShowsRu
       let y : s.n ≤ arm_limit = omega arith in
       clash (leb s.turns (arm_limit * visit_limit)) (grind (arith, nat_tests)) d)))
       (test (leb s.turns (arm_limit * visit_limit)))
+
+  -- only a step of an arm that leaves turns the bit
+  unturned_from : (s : State At) (i : ℕ) → Origin door s → refusal_of door s (Step i) ≡ None → T (not (is_in door P.X s i)) → turns_bit s.high s.regs (access_at door s i) ≡ false
+  unturned_from s i p none other =
+      let c = Step i in
+      let t = after door s c in
+      let known = known_arm s i (step_refusal (phase_at door s i)) none in
+      let keeps : Keeps (meaning_of door s) (meaning_of door t) i = subst (λ x. Keeps (meaning_of door x) (meaning_of door (after door x c)) i) p.leads (rules p.memory p.high p.number p.wanted p.regs p.calls c) in
+      let bit = keeps.only_exit_turns.1 (λ side first. clash (is_in door P.X s i) (subst T (phase_meant door s P.X i known.0 known.1) (subst (λ a. T (at P.X a)) (sym first.0) tt)) other) in
+      let e = still door s c (let x = known.0 in let y = known.1 in omega arith) (bits_now s p) (bits_now t (origin_after door s c t refl p)) bit in
+      let same : turns door s c ≡ not (eqb (get_or (stepped door i s).regs group 0) (get_or s.regs group 0)) = ap (λ r. not (eqb (get_or (unless r (stepped door i s) s).regs group 0) (get_or s.regs group 0))) none in
+      turned_so s.high s.regs (access_at door s i) ∙ sym same ∙ e
+    where
+      bits_now : (x : State At) → Origin door x → AreBits door x
+      bits_now x q = subst (AreBits door) q.leads (bits q.memory q.high q.number q.wanted q.regs q.calls)
+
+  pub unturned : (s : State At) (i : ℕ) → IsReached door s → refusal_of door s (Step i) ≡ None → T (not (is_in door P.X s i)) → turns_bit s.high s.regs (access_at door s i) ≡ false
+  unturned s i reached none other =
+      let turn = turns_bit s.high s.regs (access_at door s i) in
+      is_false turn (none_of turn (λ t. not_there reached (λ p. subst T (unturned_from s i p none other) t)))
+
+  -- so of a step from phase p it is enough to count the turn of one that leaves
+  pub exit_turns : (s : State At) (i : ℕ) → IsReached door s → refusal_of door s (Step i) ≡ None → (p : Phase) → p ≡ phase_at door s i
+      → cond {A = ℕ} (same_phase p P.X && turns_bit s.high s.regs (access_at door s i)) 1 0 ≡ cond (turns_bit s.high s.regs (access_at door s i)) 1 0
+  exit_turns s i reached none p e =
+      ⊎_elim
+      (λ t. let x = is_true (same_phase p P.X) t in grind arith)
+      (λ d. let x = unturned s i reached none (subst (λ q. T (not (same_phase q P.X))) e d) in grind arith)
+      (test (same_phase p P.X))

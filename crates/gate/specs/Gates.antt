@@ -1,12 +1,19 @@
 -- What holds of every gate in hand.
-use Rattle.std.specs.Prelude.{◌≡◌, ◌≤◌, length}
+use Rattle.std.specs.Prelude.{◌≡◌, ℕ, ◌≤◌, List, length, slice_index_or}
 use Rattle.door.specs.Law.{IsReached}
 use Rattle.door.specs.Limits.{arm_limit}
 use Rattle.door.specs.Table.{Table}
+use Rattle.door.specs.Arms.{no_arm}
 use Rattle.door.specs.States.{State}
+use Rattle.door.specs.declared.arm.Arm.{Arm}
+use Rattle.door.specs.declared.phase.Phase.TheVariants as P
 
 -- only a making and calls lead to it
 pub record IsGate {At : Type 0} (door : Table At) (s : State At) : Type 0 where
   pub few : s.n ≤ arm_limit
   pub full : length s.arms ≡ arm_limit
   pub reached : IsReached door s
+
+-- the records past the first n are idle
+abbrev pub RestIdle : {At : Type 0} → Table At → ℕ → List (Arm At) → Type 0
+RestIdle door n arms = (k : ℕ) → n ≤ k → door.phase (slice_index_or arms k (no_arm door)).position ≡ P.I

@@ -19,7 +19,7 @@ fn same_registers<B: Bank, C: Bank>(a: &B, b: &C, count: usize) -> bool
 }
 
 // The phase of the record at k.
-fn phase_at<D: Door>(arms: &[Arm<D>; ARM_LIMIT], k: usize) -> Phase
+pub(crate) fn phase_at<D: Door>(arms: &[Arm<D>; ARM_LIMIT], k: usize) -> Phase
     requires { k < arm_limit }
     ensures { result ≡ D.table.phase (slice_index_or arms.now k (no_arm D.table)).position }
 {

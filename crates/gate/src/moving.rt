@@ -1,10 +1,13 @@
-ghost use Rattle.std.specs.Prelude.{◌≡◌, ◌≤◌, None, IsTrue, OnOk};
+ghost use Rattle.std.specs.Prelude.{◌≡◌, ◌≤◌, if◌then◌else◌, ◌&&◌, None, IsTrue, OnOk};
 ghost use Rattle.door.specs.declared.phase.Phase.TheVariants as P;
 ghost use Rattle.door.specs.declared.call.Call.TheVariants.{Begin, Step};
 ghost use Rattle.door.specs.Accesses.{OneAccess, can_make};
 ghost use Rattle.gate.specs.Answers.{step_answer};
+ghost use Rattle.gate.specs.Gates.{IsGate};
 ghost use Rattle.door.specs.Calls.{answered, refusal_of, after, access_at, arm_after, stepped};
 ghost use Rattle.door.specs.Arms.{advanced};
+ghost use Rattle.door.specs.Phases.{same_phase};
+ghost use Rattle.door.specs.States.{arm_at};
 
 use crate::gate::Gate;
 use crate::rows::follow;
@@ -14,19 +17,33 @@ use door::arm::Arm;
 use door::{Phase, Refusal};
 use doors::Door;
 
-// The position and the value just read decide the next position together; it is rewritten in place.
+// The position and the value just read decide the next position together; it is rewritten in place. Answers the phase of it.
 // A side is kept from the doorway's read of the bit to the last exit step.
-fn advance<D: Door>(arm: &mut Arm<D>, n: u8, value: u64)
-    ensures { arm.new ≡ advanced D.table n value arm.old }
+// The caller knows where the arm stands, and its phase: neither is read again after the access.
+#[inline(always)]
+fn advance<D: Door>(arm: &mut Arm<D>, from: D, phase: Phase, n: u8, value: u64) -> Phase
+    requires at { from ≡ arm.old.position }
+    requires phase { phase ≡ D.table.phase from }
+    ensures after { arm.new ≡ advanced D.table n value arm.old }
+    ensures phase { result ≡ D.table.phase arm.new.position }
 {
-    let from = arm.position;
-    let side = arm.side_value();
-    arm.position.advance(n, side, value);
-    match (from.phase(), arm.position.phase()) {
+    let mut position = from;
+    position.advance(n, arm.side_value(), value);
+    let to = position.phase();
+    arm.position = position;
+    match (phase, to) {
         (Phase::D, _) if from.reads_bit() => arm.side = Some(value),
         (Phase::X, Phase::I) => arm.side = None,
         _ => {}
     }
+    to
+}
+
+// How many turns a step from a phase adds: only an exit step turns the bit.
+fn turns(from: Phase, turned: bool) -> u64
+    ensures { result ≡ (if same_phase from P.X && turned then 1 else 0) }
+{
+    u64::from(from == Phase::X && turned)
 }
 
 impl<B: Bank, D: Door> Gate<B, D> {
@@ -36,12 +53,10 @@ impl<B: Bank, D: Door> Gate<B, D> {
         ensures answer { result ≡ answered (refusal_of D.table self.old (Begin arm)) P.D }
         ensures after { self.new ≡ after D.table self.old (Begin arm) }
     {
-        let record = self.may_begin(arm)?;
-        self.arms[arm - 1] = Arm {
-            position: D::entry(),
-            visits: record.visits + 1,
-            ..record
-        };
+        self.may_begin(arm)?;
+        let record = &mut self.arms[arm - 1];
+        record.position = D::entry();
+        record.visits += 1;
         Ok(Phase::D)
     }
 
@@ -52,27 +67,44 @@ impl<B: Bank, D: Door> Gate<B, D> {
         ensures one { OneAccess D.table self.old arm self.new }
         ensures made { OnOk result (IsTrue (can_make self.old (access_at D.table self.old arm))) }
     {
-        self.may_step(arm)?;
-        Ok(self.move_on(arm))
+        self.step_by_phase(arm)
+    }
+
+    // A step branches on the phase of its arm here alone: the move is built once for each of the three.
+    fn step_by_phase(&mut self, arm: usize) -> Result<Phase, Refusal>
+        ensures answer { result ≡ step_answer D.table self.old arm }
+        ensures after { self.new ≡ after D.table self.old (Step arm) }
+        ensures gate { IsGate D.table self.old }
+    {
+        let from = self.record(arm)?.position;
+        match from.phase() {
+            Phase::I => Err(Refusal::Idle),
+            Phase::D => Ok(self.move_on(arm, from, Phase::D)),
+            Phase::W => Ok(self.move_on(arm, from, Phase::W)),
+            Phase::F => Err(Refusal::Inside),
+            Phase::X => Ok(self.move_on(arm, from, Phase::X)),
+        }
     }
 
     // The access of an arm that may step and its next position, the rows that tell of it, and the turns; answers the phase after it.
-    fn move_on(&mut self, arm: usize) -> Phase
+    // The arm stands at this position, which has this phase.
+    #[inline(always)]
+    fn move_on(&mut self, arm: usize, from: D, phase: Phase) -> Phase
         requires low { 1 ≤ arm }
         requires high { arm ≤ self.old.n }
         requires may { refusal_of D.table self.old (Step arm) ≡ None }
+        requires at { from ≡ (arm_at D.table self.old arm).position }
+        requires phase { phase ≡ D.table.phase from }
         ensures answer { result ≡ D.table.phase (arm_after D.table self.old arm).position }
         ensures after { self.new ≡ stepped D.table arm self.old }
     {
         let n = self.n as u8;
         let record = &mut self.arms[arm - 1];
-        let from = record.position.phase();
-        let access = record.position.access(arm as u8, record.side_value());
+        let access = from.access(arm as u8, record.side_value());
         let Outcome { value, turned } = access.make(&mut self.bank);
-        advance(record, n, value);
-        let phase = record.position.phase();
-        follow(&mut self.arms, arm - 1, from, phase);
-        self.turns += u64::from(turned);
-        phase
+        let to = advance(record, from, phase, n, value);
+        follow(&mut self.arms, self.n, arm - 1, phase, to);
+        self.turns += turns(phase, turned);
+        to
     }
 }

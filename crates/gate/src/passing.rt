@@ -6,7 +6,6 @@ ghost use Rattle.door.specs.Calls.{after, knows};
 use crate::gate::Gate;
 use crate::pass::{HandedBack, Pass};
 use bank::Bank;
-use door::arm::Arm;
 use door::{Phase, Refusal};
 use doors::Door;
 
@@ -19,11 +18,8 @@ impl<B: Bank, D: Door> Gate<B, D> {
         ensures after { self.new ≡ after D.table self.old (Admit arm) }
         ensures known { IfOk result (λ pass. IsTrue (knows D.table self.new pass.gate pass.arm)) }
     {
-        let record = self.may_admit(arm)?;
-        self.arms[arm - 1] = Arm {
-            out: true,
-            ..record
-        };
+        self.may_admit(arm)?;
+        self.arms[arm - 1].out = true;
         Ok(Pass {
             gate: self.number,
             arm,
@@ -52,13 +48,9 @@ impl<B: Bank, D: Door> Gate<B, D> {
                 refusal: Refusal::StrangePass,
             });
         }
-        let at = pass.arm - 1;
-        let record = self.arms[at];
-        self.arms[at] = Arm {
-            position: D::exit(),
-            out: false,
-            ..record
-        };
+        let record = &mut self.arms[pass.arm - 1];
+        record.position = D::exit();
+        record.out = false;
         pass.spent = true;
         Ok(Phase::X)
     }

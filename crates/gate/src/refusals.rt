@@ -1,6 +1,6 @@
 ghost use Rattle.std.specs.Prelude.{◌≡◌};
 ghost use Rattle.door.specs.States.{is_arm};
-ghost use Rattle.door.specs.declared.call.Call.TheVariants.{Begin, Step, Admit, Look, Way};
+ghost use Rattle.door.specs.declared.call.Call.TheVariants.{Begin, Admit, Look, Way};
 ghost use Rattle.door.specs.Calls.{knows};
 ghost use Rattle.gate.specs.Answers.{record_for};
 ghost use Rattle.gate.specs.Gates.{IsGate};
@@ -43,19 +43,6 @@ impl<B: Bank, D: Door> Gate<B, D> {
             Phase::I if arm.visits < VISIT_LIMIT => Ok(arm),
             Phase::I => Err(Refusal::Worn),
             _ => Err(Refusal::Busy),
-        }
-    }
-
-    // The record of an arm that may step.
-    pub(crate) fn may_step(&self, i: usize) -> Result<Arm<D>, Refusal>
-        ensures record { result ≡ record_for D.table self.now (Step i) i }
-        ensures gate { IsGate D.table self.now }
-    {
-        let arm = self.record(i)?;
-        match arm.position.phase() {
-            Phase::I => Err(Refusal::Idle),
-            Phase::F => Err(Refusal::Inside),
-            Phase::D | Phase::W | Phase::X => Ok(arm),
         }
     }
 

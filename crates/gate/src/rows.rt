@@ -2,7 +2,9 @@ ghost use Rattle.std.specs.Prelude.{◌≡◌, ◌<◌, ◌≤◌, map, length};
 ghost use Rattle.door.specs.Limits.{arm_limit};
 ghost use Rattle.gate.specs.Answers.{largest_count};
 ghost use Rattle.door.specs.Tallies.{counted, is_idle, row_started, tallied};
+ghost use Rattle.gate.specs.Gates.{RestIdle};
 
+use crate::comparing::phase_at;
 use door::Phase;
 use door::arm::{ARM_LIMIT, Arm};
 use doors::Door;
@@ -17,44 +19,45 @@ fn count<D: Door>(arm: &mut Arm<D>, b: usize)
     }
 }
 
-// The arm at b went inside: each arm that waits adds 1 for it.
-fn count_entry<D: Door>(arms: &mut [Arm<D>; ARM_LIMIT], b: usize)
-    requires { b < arm_limit }
+// The arm at b went inside: each arm that waits adds 1 for it. None does past the first n, the arms of the gate.
+fn count_entry<D: Door>(arms: &mut [Arm<D>; ARM_LIMIT], n: usize, b: usize)
+    requires arm { b < arm_limit }
+    requires few { n ≤ arm_limit }
+    requires rest { RestIdle D.table n arms.old }
     ensures after { arms.new ≡ map (counted D.table b) arms.old }
     ensures full { length arms.new ≡ arm_limit }
 {
-    for arm in arms.iter_mut() {
-        count(arm, b);
+    for k in 0..n {
+        count(&mut arms[k], b);
     }
 }
 
-// Which arms are idle.
-fn idle_arms<D: Door>(arms: &[Arm<D>; ARM_LIMIT]) -> [bool; ARM_LIMIT]
-    ensures { result ≡ map (is_idle D.table) arms.now }
-{
-    let mut notes = [false; ARM_LIMIT];
-    for (k, arm) in arms.iter().enumerate() {
-        notes[k] = arm.position.phase() == Phase::I;
-    }
-    notes
-}
-
-// The arm at k ended its doorway: its row starts at 0, and the idle arms are noted.
-fn start_row<D: Door>(arms: &mut [Arm<D>; ARM_LIMIT], k: usize)
-    requires { k < arm_limit }
+// The arm at k ended its doorway: its row starts at 0, and the idle arms are noted. All are idle past the first n.
+fn start_row<D: Door>(arms: &mut [Arm<D>; ARM_LIMIT], n: usize, k: usize)
+    requires arm { k < arm_limit }
+    requires few { n ≤ arm_limit }
+    requires rest { RestIdle D.table n arms.old }
     ensures { arms.new ≡ row_started D.table k arms.old }
 {
-    arms[k] = Arm {
-        row: [0; ARM_LIMIT],
-        notes: idle_arms(arms),
-        ..arms[k]
-    };
+    arms[k].row = [0; ARM_LIMIT];
+    arms[k].notes = [true; ARM_LIMIT];
+    for j in 0..n {
+        arms[k].notes[j] = phase_at(arms, j) == Phase::I;
+    }
 }
 
 // The arm at k went from one phase to another. At the end of its doorway its row starts; when it goes inside the arms that wait
 // count it. The rest of its visit leaves all rows, so that its own tells of this visit until the next one's doorway ends.
-pub(crate) fn follow<D: Door>(arms: &mut [Arm<D>; ARM_LIMIT], k: usize, from: Phase, to: Phase)
-    requires { k < arm_limit }
+pub(crate) fn follow<D: Door>(
+    arms: &mut [Arm<D>; ARM_LIMIT],
+    n: usize,
+    k: usize,
+    from: Phase,
+    to: Phase,
+)
+    requires arm { k < arm_limit }
+    requires few { n ≤ arm_limit }
+    requires rest { RestIdle D.table n arms.old }
     ensures rows { arms.new ≡ tallied D.table k from to arms.old }
     ensures full { length arms.new ≡ arm_limit }
 {
@@ -63,8 +66,8 @@ pub(crate) fn follow<D: Door>(arms: &mut [Arm<D>; ARM_LIMIT], k: usize, from: Ph
         return;
     }
     match (from, to) {
-        (Phase::D, Phase::W) => start_row(arms, k),
-        (Phase::W, Phase::F) => count_entry(arms, k),
+        (Phase::D, Phase::W) => start_row(arms, n, k),
+        (Phase::W, Phase::F) => count_entry(arms, n, k),
         _ => {}
     }
 }

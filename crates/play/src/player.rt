@@ -53,6 +53,8 @@ fn count(refusal: Option<Refusal>) -> usize
 }
 
 // Obeys the orders of a schedule one after another, and answers how many the gate refused.
+// It stays a function of its own where it is built, so that its loop has the processor's registers to itself.
+#[inline(never)]
 fn obey_all<B: Bank, D: Door>(gate: &mut Gate<B, D>, schedule: &Schedule) -> usize
     ensures refused { result ≡ refusals D.table gate.old schedule.now.orders }
     ensures after { gate.new ≡ obeyed_all D.table gate.old schedule.now.orders }

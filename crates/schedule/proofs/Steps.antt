@@ -1,6 +1,7 @@
 -- One more order of a file.
 use Rattle.std.proofs.Common.{◌≡◌, ℕ, ◌+◌, ◌<◌, ◌≤◌, cond, ltb, List, [], ◌∷◌, length, drop, Some, None, Ok, Err, Option, Result, IsOk, subst, sym, refl, ap, ◌∙◌, arith, length-drop}
 use Rattle.std.specs.Result.{result_unwrap_or}
+use Rattle.std.proofs.Math.ListN.{drop_of_length-le}
 use Rattle.std.proofs.lemmas.List.{drop-drop}
 use Rattle.std.proofs.lemmas.Bool.Decides.{nat_tests}
 use Rattle.schedule.specs.declared.order_number.Order.{Order}
@@ -106,12 +107,16 @@ module _ (file : List ℕ) (at count : ℕ) (p : Placed) (sound : IsOk (orders_f
       by (Ok os) s = refl
       by (Err f) s = absurd (grind arith)
 
-pub none_left : (file : List ℕ) (at count : ℕ) (f : ScheduleFault) → IsOk (orders_from at count (drop at file)) → order_from at count (drop at file) ≡ Err f → orders_at file at count ≡ []
-none_left file at count f sound e = by (drop at file) refl
-  where
-    by : (bytes : List ℕ) → drop at file ≡ bytes → orders_at file at count ≡ []
-    by [] d = let k = orders_end at count in cc
-    by (b ∷ bytes) d = let k = orders_fault at count (drop at file) f (grind arith) e in absurd (grind arith)
+-- before the end there is one, and at the end none is left
+pub one_more : (file : List ℕ) (at count : ℕ) (r : Result Placed ScheduleFault) → IsOk (orders_from at count (drop at file)) → at < length file → r ≡ order_from at count (drop at file) → IsOk r
+one_more file at count (Ok p) sound before e = refl
+one_more file at count (Err f) sound before e =
+    let l = length-drop at file in
+    let k = orders_fault at count (drop at file) f (omega arith) (sym e) in
+    absurd (grind arith)
+
+pub none_left : (file : List ℕ) (at count : ℕ) → length file ≤ at → orders_at file at count ≡ []
+none_left file at count past = let d = drop_of_length-le file past in let k = orders_end at count in cc
 
 -- what a call of `next` does
-pub ruleset next_order = (next_sound, next_first, none_left, next_at)
+pub ruleset next_order = (next_sound, next_first, one_more, none_left, next_at)

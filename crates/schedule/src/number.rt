@@ -21,14 +21,17 @@ pub struct Number {
 pub fn number_at(file: &[u8], at: usize) -> Result<Number, NumberFault>
     ensures { result ≡ number_from at (drop at file.now) }
 {
-    match file.get(at..).unwrap_or(&[]) {
-        &[low, ..] if low < MORE => Ok(Number {
+    let cut = NumberFault::Cut { place: at };
+    let low = *file.get(at).ok_or(cut)?;
+    if low < MORE {
+        return Ok(Number {
             value: u16::from(low),
             next: at + 1,
-        }),
-        [] | [_] => Err(NumberFault::Cut { place: at }),
-        [_, 0, ..] => Err(NumberFault::Padded { place: at }),
-        &[low, high, ..] if high < MORE => Ok(Number {
+        });
+    }
+    match *file.get(at + 1).ok_or(cut)? {
+        0 => Err(NumberFault::Padded { place: at }),
+        high if high < MORE => Ok(Number {
             value: (u32::from(low - MORE) + GROUP * u32::from(high)) as u16,
             next: at + 2,
         }),

@@ -56,9 +56,14 @@ impl<'a> Iterator for Orders<'a> {
 
     ghost remaining = { item_count (λ rest. rest) };
 
+    // The file was gone through before: a number of a known kind stands at the place, unless it is the end.
+    #[inline(always)]
     #[tactic(auto, using(crate::proofs::Steps::next_order))]
     fn next(&mut self) -> Option<Order> {
-        let placed = order_at(self.file, self.at, self.count).ok()?;
+        if self.at >= self.file.len() {
+            return None;
+        }
+        let placed = order_at(self.file, self.at, self.count).unwrap();
         self.at = placed.next;
         self.count += 1;
         Some(placed.order)

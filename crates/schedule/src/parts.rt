@@ -36,6 +36,7 @@ pub fn arms_of(file: &[u8]) -> Result<Number, ScheduleFault>
 }
 
 /// The order at a place, the `count`-th of its file, the first being 1.
+#[inline(always)]
 pub fn order_at(file: &[u8], at: usize, count: usize) -> Result<Placed, ScheduleFault>
     ensures { result ≡ order_from at count (drop at file.now) }
 {

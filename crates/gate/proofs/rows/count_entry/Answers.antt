@@ -1,14 +1,17 @@
 use Rattle.std.proofs.Common.{sym, ◌∙◌, arith}
 use Rattle.door.specs.Arms.{no_arm}
 use Rattle.door.specs.Tallies.{counted}
-use Rattle.door.proofs.Tables.{map_from}
+use Rattle.door.proofs.Tables.{map_first, idle_uncounted}
 use Rattle.gate.proofs.rows.count_entry.Goals as goal
 
 pub returns : goal.returns
 returns g c =
+    let door = g.D.Door.table in
+    let now = c.loop-k.invariant in
     record {
       after =
-          map_from (counted g.D.Door.table c.args.b) c.loop-arm.arms c.args.arms.now (no_arm g.D.Door.table) (no_arm g.D.Door.table) (c.loop-arm.invariant.0 ∙ sym c.told-arms)
-          (λ j h. c.loop-arm.invariant.1 j (omega arith));
-      full = c.loop-arm.invariant.0;
+          map_first (counted door c.args.b) c.args.n c.loop-k.arms c.args.arms.now (no_arm door) (no_arm door) (now.0 ∙ sym c.told-arms)
+          (λ j h. now.1 j (omega arith))
+          (λ j past h. now.2 j (omega arith) ∙ sym (idle_uncounted door c.args.b _ (c.requires.rest j past)));
+      full = now.0;
     }

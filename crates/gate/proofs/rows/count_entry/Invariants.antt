@@ -4,9 +4,9 @@ use Rattle.door.specs.Arms.{no_arm}
 use Rattle.door.specs.Tallies.{counted}
 use Rattle.gate.proofs.rows.count_entry.Given as goal
 
--- the records below the index are counted, the others as they were
-abbrev pub invariant-loop-arm : goal.invariant-loop-arm
-invariant-loop-arm g l =
+-- the records below k are counted, the others as they were
+abbrev pub invariant-loop-k : goal.invariant-loop-k
+invariant-loop-k g l =
     (length l.arms ≡ arm_limit)
-    × ((j : ℕ) → j < l.arm-index → get_or l.arms j (no_arm g.D.Door.table) ≡ counted g.D.Door.table l.b (get_or l.initial.arms j (no_arm g.D.Door.table)))
-    × ((j : ℕ) → l.arm-index ≤ j → get_or l.arms j (no_arm g.D.Door.table) ≡ get_or l.initial.arms j (no_arm g.D.Door.table))
+    × ((j : ℕ) → j < l.k → get_or l.arms j (no_arm g.D.Door.table) ≡ counted g.D.Door.table l.b (get_or l.initial.arms j (no_arm g.D.Door.table)))
+    × ((j : ℕ) → l.k ≤ j → get_or l.arms j (no_arm g.D.Door.table) ≡ get_or l.initial.arms j (no_arm g.D.Door.table))
