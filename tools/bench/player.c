@@ -52,7 +52,6 @@ static void start_row(struct arm *arm) {
         arm->notes[k - 1] = arms[k].at == I;
 }
 
-#ifdef FOUR_VALUED
 static int step(unsigned i) {
     if (i < 1 || i > n)
         return 1;
@@ -61,6 +60,7 @@ static int step(unsigned i) {
     switch (arm->at) {
     case I: return 3;
     case F: return 4;
+#ifdef FOUR_VALUED
     case D1: registers[i] = 2; arm->at = D2; break;
     case D2: arm->side = registers[0]; arm->at = D3; break;
     case D3: registers[i] = arm->side; start_row(arm); break;
@@ -69,20 +69,8 @@ static int step(unsigned i) {
     case W3: if (registers[j] != 1 - arm->side) onward(i); else arm->at = W4; break;
     case W4: if (registers[j] != 1 - arm->side) onward(i); else arm->at = W5; break;
     case W5: if (registers[0] != arm->side) onward(i); else arm->at = W4; break;
-    case X1: registers[0] = 1 - arm->side; arm->at = X2; break;
     case X2: registers[i] = 3; arm->at = I; break;
-    }
-    return 0;
-}
 #else
-static int step(unsigned i) {
-    if (i < 1 || i > n)
-        return 1;
-    struct arm *arm = &arms[i];
-    unsigned j = arm->index;
-    switch (arm->at) {
-    case I: return 3;
-    case F: return 4;
     case D1: registers[3 * i - 2] = 1; arm->at = D2; break;
     case D2: arm->side = registers[0]; arm->at = D3; break;
     case D3: registers[3 * i - 1] = arm->side; arm->at = D4; break;
@@ -94,12 +82,12 @@ static int step(unsigned i) {
     case W4: if (!registers[3 * j]) onward(i); else arm->at = W5; break;
     case W5: if (registers[0] != arm->side) onward(i); else arm->at = W6; break;
     case W6: if (registers[3 * j - 1] == arm->side) onward(i); else arm->at = W4; break;
-    case X1: registers[0] = 1 - arm->side; arm->at = X2; break;
     case X2: registers[3 * i] = 0; arm->at = I; break;
+#endif
+    case X1: registers[0] = 1 - arm->side; arm->at = X2; break;
     }
     return 0;
 }
-#endif
 
 static int begin(unsigned i) {
     if (i < 1 || i > n)
