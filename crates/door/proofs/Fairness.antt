@@ -7,18 +7,18 @@ use Rattle.door.specs.Table.{Table}
 use Rattle.door.specs.Arms.{fresh, no_arm}
 use Rattle.door.specs.States.{State, made, is_arm, arm_at}
 use Rattle.door.specs.Calls.{after, run, refusal_of, answered, has_way, way_answer}
-use Rattle.door.specs.History.{goes_inside, GoesInside, is_in, Waits, RightOfWay, entries_before, latest_lost, entries_since, idle_then, lost_to}
+use Rattle.door.specs.History.{goes_inside, GoesInside, is_in, past_doorway, Waits, IsPastDoorway, RightOfWay, entries_before, latest_lost, entries_since, idle_then, lost_to}
 use Rattle.door.specs.Phases.{same_phase}
 use Rattle.door.specs.Rules.{Phased, Always, ShowsRules}
-use Rattle.door.specs.Law.{OnceIfIdle, RowCounts, NotesTell, RowKept, NotesKept, LostAtMostTwice, AllInside, PassingBound, ShowsWay, Fair, Law, Origin, IsReached, Tells}
+use Rattle.door.specs.Law.{AtMostTwice, OnceIfIdle, NotItself, AtMostTwiceUntilIdle, OnceIfIdleUntilIdle, OnceItself, RowCounts, NotesTell, RowKept, NotesKept, LostAtMostTwice, AllInside, PassingBound, ShowsWay, Fair, Law, Origin, IsReached, Tells}
 use Rattle.door.specs.declared.call.Call.{Call}
 use Rattle.door.specs.declared.call.Call.TheVariants.{Way}
 use Rattle.door.specs.declared.phase.Phase.TheVariants as P
 use Rattle.door.specs.declared.refusal.Refusal.{Refusal}
-use Rattle.door.proofs.Bools.{test, clash, and_T}
+use Rattle.door.proofs.Bools.{test, clash, and_T, T_and, T_or_left, is_true}
 use Rattle.door.proofs.Rooms.{arms_few}
 use Rattle.door.proofs.Accepted.{arm_in}
-use Rattle.door.proofs.Passed.{Passed, passed_run, bound, none_itself, start_fresh, start_passed}
+use Rattle.door.proofs.Passed.{Passed, passed_run, bound, once_itself as exactly_once, start_fresh, start_passed}
 use Rattle.door.proofs.Runs.{run_n}
 use Rattle.door.proofs.Changes.{change_of}
 use Rattle.door.proofs.Rows.{Row, Kept, kept_run}
@@ -37,13 +37,16 @@ module _ {At : Type 0} {door : Table At} (phased : Phased door) (rules : ShowsRu
   pub few : start.n ≤ arm_limit
   few = arms_few door high (length regs) wanted
 
-  arm_range : (w : ℕ) → T (is_arm now w) → (1 ≤ w) × (w ≤ start.n)
+  pub arm_range : (w : ℕ) → T (is_arm now w) → (1 ≤ w) × (w ≤ start.n)
   arm_range w h = let x = arm_in now w h in (x.0, (let y = x.1 in let z = run_n door past start in omega arith))
 
-  waits_range : (w : ℕ) → Waits door now w → (1 ≤ w) × (w ≤ start.n) × T (is_in door P.W now w)
-  waits_range w h = let y = and_T (is_arm now w) (is_in door P.W now w) h in let x = arm_range w y.0 in (x.0, x.1, y.1)
+  pub past_range : (w : ℕ) → IsPastDoorway door now w → (1 ≤ w) × (w ≤ start.n) × T (past_doorway door now w)
+  past_range w h = let y = and_T (is_arm now w) (past_doorway door now w) h in let x = arm_range w y.0 in (x.0, x.1, y.1)
 
-  first : (w b : ℕ) → Passed door w b start 0 false
+  waits_past : (w : ℕ) → Waits door now w → IsPastDoorway door now w
+  waits_past w h = let y = and_T (is_arm now w) (is_in door P.W now w) h in T_and (is_arm now w) (past_doorway door now w) y.0 (T_or_left (is_in door P.W now w) _ y.1)
+
+  pub first : (w b : ℕ) → Passed door w b start 0 false
   first w b = start_passed door phased memory high number wanted regs w b (λ p c. change_of _ _ _ (rules memory high number wanted regs p c))
 
   counts : (w b : ℕ) → 1 ≤ w → w ≤ start.n → 1 ≤ b → b ≤ start.n → Passed door w b now (entries_since door w b start past) (idle_then door w b start past)
@@ -52,11 +55,27 @@ module _ {At : Type 0} {door : Table At} (phased : Phased door) (rules : ShowsRu
   now_in : (w : ℕ) → w ≤ start.n → w ≤ now.n
   now_in w h = let z = run_n door past start in omega arith
 
-  pub passed : (w b : ℕ) → Waits door now w → T (is_arm now b) → (entries_since door w b start past ≤ 2) × (T (idle_then door w b start past) → entries_since door w b start past ≤ 1)
-  passed w b hw hb = let x = waits_range w hw in let y = arm_range b hb in bound door w b now x.0 (now_in w x.1) _ _ (counts w b x.0 x.1 y.0 y.1) x.2
+  pub passed : (w b : ℕ) → IsPastDoorway door now w → T (is_arm now b) → (entries_since door w b start past ≤ 2) × (T (idle_then door w b start past) → entries_since door w b start past ≤ 1)
+  passed w b hw hb = let x = past_range w hw in let y = arm_range b hb in bound door w b now x.0 (now_in w x.1) _ _ (counts w b x.0 x.1 y.0 y.1) x.2
 
-  pub not_itself : (w : ℕ) → Waits door now w → entries_since door w w start past ≡ 0
-  not_itself w hw = let x = waits_range w hw in none_itself door w now x.0 (now_in w x.1) _ _ (counts w w x.0 x.1 x.0 x.1) x.2
+  pub twice_until_idle : AtMostTwiceUntilIdle door start past now
+  twice_until_idle w b hw hb = (passed w b hw hb).0
+
+  pub once_until_idle : OnceIfIdleUntilIdle door start past now
+  once_until_idle w b hw hb = (passed w b hw hb).1
+
+  pub once_itself : OnceItself door start past now
+  once_itself w hw = let x = past_range w hw in exactly_once door w now x.0 (now_in w x.1) _ _ (counts w w x.0 x.1 x.0 x.1) x.2
+
+  -- so while it waits
+  pub counted_twice : AtMostTwice door start past now
+  counted_twice w b hw = twice_until_idle w b (waits_past w hw)
+
+  pub counted_once : OnceIfIdle door start past now
+  counted_once w b hw = once_until_idle w b (waits_past w hw)
+
+  pub not_itself : NotItself door start past now
+  not_itself w hw = once_itself w (waits_past w hw) ∙ ap (λ t. cond t 0 1) (is_true (is_in door P.W now w) (and_T (is_arm now w) (is_in door P.W now w) hw).1)
 
   fresh_at : (w : ℕ) → 1 ≤ w → w ≤ start.n → arm_at door start w ≡ fresh door
   fresh_at w lo hi = get_or-replicate arm_limit (w - 1) (fresh door) (no_arm door) (let z = few in omega arith)
@@ -84,9 +103,6 @@ module _ {At : Type 0} {door : Table At} (phased : Phased door) (rules : ShowsRu
       (ap (λ t. cond t (0 + entries_before door w b start past) 0) (fresh_phase w))
       (kept_run door w b start.n x.0 x.1 y.0 y.1 few phased past start refl room 0 0 false (first w b) (fresh_kept w b x.0 x.1 y.0 y.1))
 
-  pub counted_once : OnceIfIdle door start past now
-  counted_once w b hw hb = (passed w b hw hb).1
-
   pub row_kept : RowKept door start past now
   row_kept w b hw hb = (kept w b hw hb).row.count
 
@@ -106,9 +122,12 @@ module _ {At : Type 0} {door : Table At} (phased : Phased door) (rules : ShowsRu
 -- how often an arm is passed, of any door that shows the rules
 pub passing : {At : Type 0} (door : Table At) → Phased door → ShowsRules door → PassingBound door
 passing door phased rules = record {
-  twice = λ memory high number wanted regs past w b hw hb. (passed phased rules memory high number wanted regs past w b hw hb).0;
+  twice = counted_twice phased rules;
   once = counted_once phased rules;
   itself = not_itself phased rules;
+  twice_until_idle = twice_until_idle phased rules;
+  once_until_idle = once_until_idle phased rules;
+  once_itself = once_itself phased rules;
   row = rows phased rules;
   notes = notes phased rules;
   row_kept = row_kept phased rules;
@@ -126,6 +145,9 @@ module _ {At : Type 0} (door : Table At) (phased : Phased door) (rules : ShowsRu
         twice = bound.twice memory high number wanted regs past;
         once = bound.once memory high number wanted regs past;
         itself = bound.itself memory high number wanted regs past;
+        twice_until_idle = bound.twice_until_idle memory high number wanted regs past;
+        once_until_idle = bound.once_until_idle memory high number wanted regs past;
+        once_itself = bound.once_itself memory high number wanted regs past;
         row = bound.row memory high number wanted regs past;
         notes = bound.notes memory high number wanted regs past;
         row_kept = bound.row_kept memory high number wanted regs past;

@@ -1,10 +1,10 @@
--- How often an arm gets past one that waits, told of the meaning, from the rules alone.
-use Rattle.std.proofs.Common.{◌≡◌, ℕ, ◌+◌, ◌≤◌, Bool, cond, not, ◌&&◌, T, eqb, ◌≢◌, ◌⊎◌, sym, refl, ap, ◌∙◌, subst, inl, ⊎_elim, arith}
+-- How often an arm gets past one that has ended its doorway, until that one is idle, told of the meaning, from the rules alone.
+use Rattle.std.proofs.Common.{◌≡◌, ℕ, ◌+◌, ◌≤◌, Bool, cond, not, ◌&&◌, ◌||◌, T, eqb, ◌≢◌, ◌⊎◌, sym, refl, ap, ◌∙◌, subst, inl, ⊎_elim, arith}
 use Rattle.std.proofs.lemmas.Bool.{cases_eq}
 use Rattle.std.proofs.lemmas.Bool.Decides.{nat_tests}
 use Rattle.door.specs.Meaning.{Stage, resting, coming, read, waiting, inside, leaving, turned, has, at, Meaning}
 use Rattle.door.specs.Rules.{Free}
-use Rattle.door.proofs.Changes.{Goes, rests, ends, enters, turns, Change, ends_doorway, goes_inside}
+use Rattle.door.proofs.Changes.{Goes, enters, turns, Change, ends_doorway, goes_inside}
 use Rattle.door.specs.declared.phase.Phase.TheVariants as P
 use Rattle.door.proofs.Bools.{same, same_refl, same_trans}
 
@@ -42,7 +42,17 @@ module _ (bit : Bool) (arms arms' : ℕ → Stage) (i : ℕ) (frame : (k : ℕ) 
       (cases_eq k i)
   own_goes a a' b' e e' goes k = own_still a' e' (λ t h. grind arith) (let o = subst (Own bit arms) e (own i) in grind arith) k
 
--- how often an arm can still get past one that waits with side s: e says that the bit is s
+-- an arm with side s that has ended its doorway and is not idle yet
+abbrev pub past_doorway : Stage → Bool
+past_doorway a = at P.W a || (at P.F a || at P.X a)
+
+abbrev pub is_past : Bool → Stage → Bool
+is_past s a = past_doorway a && has s a
+
+past_has : (s u : Bool) (a : Stage) → T (is_past s a) → T (same u s) → T (has u a)
+past_has s u a h q = grind arith
+
+-- how often an arm can still get past one of side s that is past its doorway: e says that the bit is s
 abbrev pub left : Bool → Bool → Stage → ℕ
 left e s resting = cond e 1 0
 left e s coming = cond e 1 0
@@ -61,9 +71,9 @@ left_idle e s a h = grind arith
 left_falls : (e e' s : Bool) (a : Stage) → (T e' → T e) → left e' s a ≤ left e s a
 left_falls e e' s a f = grind arith
 
-module _ (bit : Bool) (arms : ℕ → Stage) (w : ℕ) (s : Bool) (e : arms w ≡ waiting s) where
+module _ (bit : Bool) (arms : ℕ → Stage) (w : ℕ) (s : Bool) (h : T (is_past s (arms w))) where
   w_side : (u : Bool) → T (same u s) → T (has u (arms w))
-  w_side u q = subst (λ y. T (has u y)) (sym e) q
+  w_side u = past_has s u (arms w) h
 
   away : (a a' : Stage) (b' : Bool) → Goes bit arms a a' b' → Own bit arms a → T (same b' s) → T (same bit s)
   away a a' b' (turns {t = u}) o q = same_trans bit (not u) s (o w (w_side (not u) q)) q
@@ -75,11 +85,14 @@ module _ (bit : Bool) (arms : ℕ → Stage) (w : ℕ) (s : Bool) (e : arms w �
   left_goes a a' b' (turns {t = u}) o = let x : T (same (not u) s) → T (same bit (not u)) = λ q. o w (w_side (not u) q) in grind arith
   left_goes a a' b' goes o = grind arith
 
--- the arm that waits after a call waited before it, or has ended its doorway
-wait_goes : (bit : Bool) (arms : ℕ → Stage) (a a' : Stage) (b' : Bool) (s : Bool) → Goes bit arms a a' b' → a' ≡ waiting s → T (not (at P.D a && at P.W a')) → a ≡ waiting s
-wait_goes bit arms a a' b' s rests e d = e
-wait_goes bit arms a a' b' s ends e d = absurd d
-wait_goes bit arms a a' b' s b e d = absurd (subst (λ y. T (not (at P.W y))) e tt)
+-- what is left of its own entry: 2 before it, so that it has none while it waits
+abbrev pub itself : Stage → ℕ
+itself a = cond (at P.W a) 2 1
+
+-- the arm that is past its doorway after a call was so before it, with that side, or has ended it
+past_goes : (bit : Bool) (arms : ℕ → Stage) (a a' : Stage) (b' : Bool) (s : Bool) → Goes bit arms a a' b' → T (is_past s a') → T (not (at P.D a && at P.W a'))
+    → T (is_past s a) × (itself a' + cond (at P.W a && at P.F a') 1 0 ≡ itself a)
+past_goes bit arms a a' b' s goes h d = (grind arith, grind arith)
 
 abbrev pub Inv : Meaning → Type 0
 Inv m = (k : ℕ) → Own m.bit m.arms (m.arms k)
@@ -88,40 +101,40 @@ pub inv_change : (m m' : Meaning) (i : ℕ) → Change m m' i → Inv m → Inv 
 inv_change m m' i c own = own_goes m.bit m.arms m'.arms i c.frame own (m.arms i) (m'.arms i) m'.bit refl refl c.goes
 
 -- the count since w ended its doorway, by whether it ends now and whether the other goes inside now: rem is what may still come
-count : (W W' : Bool → Type 0) (rem rem' : Bool → ℕ) (E N d o : Bool) (k : ℕ) →
-    ((s : Bool) → W s → (k + rem s ≤ 2) × (T o → k + rem s ≤ 1)) →
+pub count : (W W' : Bool → Type 0) (rem rem' : Bool → ℕ) (E N d o own : Bool) (k : ℕ) →
+    ((s : Bool) → W s → (k + rem s ≤ 2) × (T o → k + rem s ≤ 1) × (T own → 2 ≤ k + rem s)) →
     ((s : Bool) → rem' s ≤ 2) →
-    (T E → T d → (s : Bool) → rem' s ≤ 1) →
-    (T (not E) → (s : Bool) → W' s → W s × (rem' s ≤ rem s) × (T N → rem' s + 1 ≤ rem s)) →
-    (s : Bool) → W' s → (cond E 0 (cond N (k + 1) k) + rem' s ≤ 2) × (T (cond E d o) → cond E 0 (cond N (k + 1) k) + rem' s ≤ 1)
-count W W' rem rem' E N d o k L high hE hF s w = grind (arith, L s, high s, hE, hF)
+    (T E → (s : Bool) → (T d → rem' s ≤ 1) × (T own → 2 ≤ rem' s)) →
+    (T (not E) → (s : Bool) → W' s → W s × (rem' s ≤ rem s) × (T N → rem' s + 1 ≤ rem s) × (T own → rem s ≤ rem' s + cond N 1 0)) →
+    (s : Bool) → W' s → (cond E 0 (cond N (k + 1) k) + rem' s ≤ 2) × (T (cond E d o) → cond E 0 (cond N (k + 1) k) + rem' s ≤ 1) × (T own → 2 ≤ cond E 0 (cond N (k + 1) k) + rem' s)
+count W W' rem rem' E N d o own k L high hE hF s w = grind (arith, L s, high s, hE, hF)
 
--- how often b can still get past w that waits with side s; w itself counts as used up
+-- how often b can still get past w that is past its doorway with side s
 abbrev pub remaining : ℕ → ℕ → Meaning → Bool → ℕ
-remaining w b m s = cond (eqb b w) 2 (left (same m.bit s) s (m.arms b))
+remaining w b m s = cond (eqb b w) (itself (m.arms w)) (left (same m.bit s) s (m.arms b))
 
--- while w waits: k entries of b since it ended its doorway, o tells whether b was idle then
+-- while w is past its doorway: k entries of b since it ended it, o tells whether b was idle then; of w itself the entries are exact
 abbrev pub Counted : ℕ → ℕ → Meaning → ℕ → Bool → Type 0
-Counted w b m k o = (s : Bool) → m.arms w ≡ waiting s → (k + remaining w b m s ≤ 2) × (T o → k + remaining w b m s ≤ 1)
+Counted w b m k o = (s : Bool) → T (is_past s (m.arms w)) → (k + remaining w b m s ≤ 2) × (T o → k + remaining w b m s ≤ 1) × (T (eqb b w) → 2 ≤ k + remaining w b m s)
 
 module _ (w b : ℕ) (m m' : Meaning) (i : ℕ) (c : Change m m' i) (own : Inv m) where
-  goes_at : (k : ℕ) → i ≡ k → Goes m.bit m.arms (m.arms k) (m'.arms k) m'.bit
+  pub goes_at : (k : ℕ) → i ≡ k → Goes m.bit m.arms (m.arms k) (m'.arms k) m'.bit
   goes_at k q = subst (λ y. Goes m.bit m.arms (m.arms y) (m'.arms y) m'.bit) q c.goes
 
-  still : (k : ℕ) → i ≢ k → m'.arms k ≡ m.arms k
+  pub still : (k : ℕ) → i ≢ k → m'.arms k ≡ m.arms k
   still k ne = c.frame k (λ z. ne (sym z))
 
   -- who ends its doorway is the one that moves, so a resting arm rests on
-  idle_stays : T (ends_doorway w m m') → T (at P.I (m.arms b)) → T (not (eqb b w)) → T (at P.I (m'.arms b))
+  pub idle_stays : T (ends_doorway w m m') → T (at P.I (m.arms b)) → T (not (eqb b w)) → T (at P.I (m'.arms b))
   idle_stays t d ne = let x = still b in let y = still w in grind (arith, nat_tests)
 
-  was_waiting : (s : Bool) → T (not (ends_doorway w m m')) → m'.arms w ≡ waiting s → m.arms w ≡ waiting s
-  was_waiting s d wait = ⊎_elim
-      (λ q. wait_goes m.bit m.arms (m.arms w) (m'.arms w) m'.bit s (goes_at w q) wait d)
-      (λ ne. sym (still w ne) ∙ wait)
+  was_past : (s : Bool) → T (not (ends_doorway w m m')) → T (is_past s (m'.arms w)) → T (is_past s (m.arms w)) × (itself (m'.arms w) + cond (goes_inside w m m') 1 0 ≡ itself (m.arms w))
+  was_past s d h = ⊎_elim
+      (λ q. past_goes m.bit m.arms (m.arms w) (m'.arms w) m'.bit s (goes_at w q) h d)
+      (λ ne. let x = still w ne in (grind arith, grind arith))
       (cases_eq i w)
 
-  left_change : (s : Bool) → m.arms w ≡ waiting s → T (not (eqb b w))
+  left_change : (s : Bool) → T (is_past s (m.arms w)) → T (not (eqb b w))
       → (left (same m'.bit s) s (m'.arms b) ≤ left (same m.bit s) s (m.arms b))
       × (T (goes_inside b m m') → left (same m'.bit s) s (m'.arms b) + 1 ≤ left (same m.bit s) s (m.arms b))
   left_change s old ne = ⊎_elim
@@ -132,14 +145,25 @@ module _ (w b : ℕ) (m m' : Meaning) (i : ℕ) (c : Change m m' i) (own : Inv m
       (rw y x, λ t. grind arith))
       (cases_eq i b)
 
-  -- at most two entries past a waiting arm, and at most one if the arm was idle when that one ended its doorway
+  -- what may still come: two at most; one at most if b was idle as w ended its doorway, and two of w itself then;
+  -- at any other call no more than before, and one less where b goes inside
+  remaining_high : (s : Bool) → remaining w b m' s ≤ 2
+  remaining_high s = let x = left_high (same m'.bit s) s (m'.arms b) in grind arith
+
+  remaining_start : T (ends_doorway w m m') → (s : Bool) → (T (at P.I (m.arms b)) → remaining w b m' s ≤ 1) × (T (eqb b w) → 2 ≤ remaining w b m' s)
+  remaining_start t s = (λ d. let x = left_idle (same m'.bit s) s (m'.arms b) in let y = idle_stays t d in grind (arith, nat_tests), λ e. grind arith)
+
+  pub remaining_change : T (not (ends_doorway w m m')) → (s : Bool) → T (is_past s (m'.arms w)) → T (is_past s (m.arms w))
+      × (remaining w b m' s ≤ remaining w b m s)
+      × (T (goes_inside b m m') → remaining w b m' s + 1 ≤ remaining w b m s)
+      × (T (eqb b w) → remaining w b m s ≤ remaining w b m' s + cond (goes_inside b m m') 1 0)
+  remaining_change d s h =
+      let old = was_past s d h in
+      let x = left_change s old.0 in
+      (old.0, grind arith, λ t. grind (arith, nat_tests), λ e. grind (arith, nat_tests))
+
+  -- at most two entries past an arm that is past its doorway, and at most one if the arm was idle when that one ended it
   pub count_change : (k : ℕ) (o : Bool) → Counted w b m k o
       → Counted w b m' (cond (ends_doorway w m m') 0 (cond (goes_inside b m m') (k + 1) k)) (cond (ends_doorway w m m') (at P.I (m.arms b)) o)
-  count_change k o L = count (λ s. m.arms w ≡ waiting s) (λ s. m'.arms w ≡ waiting s) (remaining w b m) (remaining w b m')
-      (ends_doorway w m m') (goes_inside b m m') (at P.I (m.arms b)) o k L
-      (λ s. let x = left_high (same m'.bit s) s (m'.arms b) in grind arith)
-      (λ t d s. let x = left_idle (same m'.bit s) s (m'.arms b) in let y = idle_stays t d in grind (arith, nat_tests))
-      (λ d s wait.
-      let old = was_waiting s d wait in
-      let x = left_change s old in
-      (old, grind arith, λ t. grind (arith, nat_tests)))
+  count_change k o L = count (λ s. T (is_past s (m.arms w))) (λ s. T (is_past s (m'.arms w))) (remaining w b m) (remaining w b m')
+      (ends_doorway w m m') (goes_inside b m m') (at P.I (m.arms b)) o (eqb b w) k L remaining_high remaining_start remaining_change

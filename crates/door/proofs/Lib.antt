@@ -20,6 +20,8 @@ pub mod Passed
 pub mod Rows
 -- the law, put together
 pub mod Fairness
+-- what an arm takes at most once a visit
+pub mod Takes
 -- what a state never exceeds; the access of an accepted step can be made
 pub mod Bounds
 pub mod Turns

@@ -1,4 +1,4 @@
--- How often an arm went inside past one that waits, over every history of a gate whose door shows the rules.
+-- How often an arm went inside past one that has ended its doorway, until that one is idle, over every history of a gate whose door shows the rules.
 use Rattle.std.proofs.Common.{◌≡◌, ℕ, zero, suc, ◌+◌, ◌-◌, ◌≤◌, Bool, true, false, cond, not, ◌&&◌, T, ◌≢◌, ◌⊎◌, inl, List, [], ◌∷◌, get_or, set, replicate, None, Option, sym, refl, ap, subst, ⊎_elim, arith}
 use Rattle.std.proofs.lemmas.Bool.{cases_eq}
 use Rattle.std.proofs.lemmas.Bool.Decides.{nat_tests}
@@ -9,8 +9,8 @@ use Rattle.door.specs.Table.{Table}
 use Rattle.door.specs.Arms.{fresh, no_arm}
 use Rattle.door.specs.States.{State, made, is_arm, arm_at, phase_at, with_arm}
 use Rattle.door.specs.Calls.{refusal_of, with_visit, stepped, arm_after, done, after, run}
-use Rattle.door.specs.History.{is_in, step_of, steps, ends_doorway, goes_inside, count_on, latest_idle}
-use Rattle.door.specs.Meaning.{Stage, resting, waiting, phase, at, stage_of, meaning_of, arm_of}
+use Rattle.door.specs.History.{is_in, past_doorway, step_of, steps, ends_doorway, goes_inside, count_on, latest_idle}
+use Rattle.door.specs.Meaning.{Stage, resting, waiting, inside, leaving, turned, phase, at, stage_of, meaning_of, arm_of}
 use Rattle.door.proofs.Changes.{Goes, Change, ends_doorway as ends, goes_inside as enters}
 use Rattle.door.specs.Rules.{Phased}
 use Rattle.door.specs.declared.call.Call.{Call}
@@ -18,9 +18,9 @@ use Rattle.door.specs.declared.call.Call.TheVariants.{Begin, Step, Admit, Confir
 use Rattle.door.specs.declared.arm.Arm.{Arm}
 use Rattle.door.specs.declared.phase.Phase.{Phase}
 use Rattle.door.specs.declared.phase.Phase.TheVariants as P
-use Rattle.door.proofs.Bools.{by, is_true, and_T, test}
+use Rattle.door.proofs.Bools.{same_refl, by, is_true, and_T, test}
 use Rattle.door.proofs.Accepted.{by_answer, arm_is}
-use Rattle.door.proofs.GetsPast.{Inv, inv_change, Counted, count_change}
+use Rattle.door.proofs.GetsPast.{Inv, inv_change, past_doorway as is_past_doorway, is_past, Counted, count_change}
 use Rattle.door.proofs.Seen.{tallied_table}
 use Rattle.door.proofs.Runs.{after_n}
 
@@ -45,9 +45,12 @@ waiting_goes bit arms a a' b' goes = ((λ h. grind arith), (λ h. grind arith))
 pub two_phases : (a p q : Phase) → (T (same_phase p q) → ⊥) → T (same_phase a p) → T (same_phase a q) → ⊥
 two_phases a p q d x y = grind arith
 
-waits_stage : (a : Stage) → T (at P.W a) → (t : Bool) × (a ≡ waiting t)
-waits_stage (waiting t) h = (t, refl)
-waits_stage a h = absurd h
+past_side : (a : Stage) → T (is_past_doorway a) → (t : Bool) × T (is_past t a)
+past_side (waiting t) h = (t, same_refl t)
+past_side (inside t) h = (t, same_refl t)
+past_side (leaving t) h = (t, same_refl t)
+past_side (turned t) h = (t, same_refl t)
+past_side a h = absurd h
 
 module _ {At : Type 0} (door : Table At) where
   -- a phase in the state and in its meaning
@@ -152,18 +155,22 @@ module _ {At : Type 0} (door : Table At) where
     passed_run [] s whi bhi k o h = h
     passed_run (c ∷ cs) s whi bhi k o h = passed_run cs (after door s c) (let z = after_n door s c in omega arith) (let z = after_n door s c in omega arith) _ _ (passed_call s whi bhi k o h c)
 
-  pub bound : (w b : ℕ) (s : State At) → 1 ≤ w → w ≤ s.n → (k : ℕ) (o : Bool) → Passed w b s k o → T (is_in door P.W s w) → (k ≤ 2) × (T o → k ≤ 1)
+  pub side_then : (w : ℕ) (s : State At) → 1 ≤ w → w ≤ s.n → T (past_doorway door s w) → (t : Bool) × T (is_past t ((meaning_of door s).arms w))
+  side_then w s lo hi t = past_side ((meaning_of door s).arms w) (rw (phase_meant s P.W w lo hi, phase_meant s P.F w lo hi, phase_meant s P.X w lo hi) t)
+
+  pub bound : (w b : ℕ) (s : State At) → 1 ≤ w → w ≤ s.n → (k : ℕ) (o : Bool) → Passed w b s k o → T (past_doorway door s w) → (k ≤ 2) × (T o → k ≤ 1)
   bound w b s lo hi k o h t =
-      let v = waits_stage ((meaning_of door s).arms w) (subst T (sym (phase_meant s P.W w lo hi)) t) in
+      let v = side_then w s lo hi t in
       let x = h.counted v.0 v.1 in
       ((let y = x.0 in omega arith), λ t. let y = x.1 t in omega arith)
 
-  pub none_itself : (w : ℕ) (s : State At) → 1 ≤ w → w ≤ s.n → (k : ℕ) (o : Bool) → Passed w w s k o → T (is_in door P.W s w) → k ≡ 0
-  none_itself w s lo hi k o h t =
-      let v = waits_stage ((meaning_of door s).arms w) (subst T (sym (phase_meant s P.W w lo hi)) t) in
+  pub once_itself : (w : ℕ) (s : State At) → 1 ≤ w → w ≤ s.n → (k : ℕ) (o : Bool) → Passed w w s k o → T (past_doorway door s w) → k ≡ cond (is_in door P.W s w) 0 1
+  once_itself w s lo hi k o h t =
+      let v = side_then w s lo hi t in
       let x = h.counted v.0 v.1 in
       let y = x.0 in
-      grind (arith, nat_tests)
+      let z = x.2 in
+      rw (sym (phase_meant s P.W w lo hi)) (grind (arith, nat_tests))
 
   -- from a making on
   module _ (phased : Phased door) (memory high number wanted : ℕ) (regs : List ℕ) where

@@ -13,7 +13,7 @@ use Rattle.door.specs.History.{no_refusal, is_in, step_of, steps, ends_doorway, 
 use Rattle.door.specs.declared.arm.Arm.{Arm}
 use Rattle.door.specs.declared.call.Call.{Call}
 use Rattle.door.specs.declared.call.Call.TheVariants.{Begin, Step, Admit, Confirm, Leave, Look, Tally, Way}
-use Rattle.door.proofs.Bools.{by, is_true}
+use Rattle.door.proofs.Bools.{by, is_true, T_or_left}
 use Rattle.door.specs.Table.{Table}
 use Rattle.door.specs.Phases.{same_phase}
 use Rattle.door.specs.Tallies.{with_row, counted, is_idle, tallied}
@@ -215,7 +215,7 @@ module _ {At : Type 0} (door : Table At) where
           let starts : T E → T W = λ x. grind arith in
           let over : T I → T W → ⊥ = λ x y. grind arith in
           let past' = passed_call door phased w b wlo blo s whi' bhi' k o past c in
-          let bound' = bound door w b t wlo (let z = after_n door s c in omega arith) _ _ past' in
+          let bound' : T W → _ = λ y. bound door w b t wlo (let z = after_n door s c in omega arith) _ _ past' (T_or_left W _ y) in
           let x = entries_before door w b t cs in
           rw (onward E V W I G starts over moves.0 moves.1 r x)
           (kept_run cs t (after_n door s c ∙ sn) (let z = after_length door s c in omega arith) _ _ _ past'

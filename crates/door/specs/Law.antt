@@ -1,11 +1,12 @@
 -- The fairness of a gate, over any door.
-use Rattle.std.specs.Prelude.{◌≡◌, ℕ, ◌+◌, ◌-◌, ◌*◌, ◌≤◌, Bool, true, false, T, ◌↔◌, List, Ok, Result, slice_index, slice_index_or}
+use Rattle.std.specs.Prelude.{◌≡◌, ℕ, ◌+◌, ◌-◌, ◌*◌, ◌≤◌, Bool, true, false, if◌then◌else◌, T, ◌↔◌, List, Ok, Result, slice_index, slice_index_or}
 use Rattle.door.specs.Table.{Table}
 use Rattle.door.specs.States.{State, made, is_arm, arm_at}
 use Rattle.door.specs.Calls.{run, has_way}
-use Rattle.door.specs.History.{Waits, RightOfWay, bit_read, entries_since, idle_then, lost_to, Rounds, GoesInside}
+use Rattle.door.specs.History.{is_in, Waits, IsPastDoorway, RightOfWay, bit_read, entries_since, idle_then, lost_to, Rounds, GoesInside}
 use Rattle.door.specs.Rules.{Always}
 use Rattle.door.specs.declared.call.Call.{Call}
+use Rattle.door.specs.declared.phase.Phase.TheVariants as P
 use Rattle.door.specs.declared.refusal.Refusal.{Refusal}
 
 module _ {At : Type 0} (door : Table At) where
@@ -24,6 +25,18 @@ module _ {At : Type 0} (door : Table At) where
   -- and it itself did not
   abbrev pub NotItself : State At → List Call → State At → Type 0
   NotItself start past s = (w : ℕ) → Waits door s w → entries_since door w w start past ≡ 0
+
+  -- the same until it is idle again: since an arm in W, F or X ended its doorway each arm went inside at most twice
+  abbrev pub AtMostTwiceUntilIdle : State At → List Call → State At → Type 0
+  AtMostTwiceUntilIdle start past s = (w b : ℕ) → IsPastDoorway door s w → T (is_arm s b) → entries_since door w b start past ≤ 2
+
+  -- and at most once if it was idle then
+  abbrev pub OnceIfIdleUntilIdle : State At → List Call → State At → Type 0
+  OnceIfIdleUntilIdle start past s = (w b : ℕ) → IsPastDoorway door s w → T (is_arm s b) → T (idle_then door w b start past) → entries_since door w b start past ≤ 1
+
+  -- and it itself did not while it waits, and exactly once after that
+  abbrev pub OnceItself : State At → List Call → State At → Type 0
+  OnceItself start past s = (w : ℕ) → IsPastDoorway door s w → entries_since door w w start past ≡ (if is_in door P.W s w then 0 else 1)
 
   -- its row counts just these entries, and its notes say who was idle
   abbrev pub RowCounts : State At → List Call → State At → Type 0
@@ -56,6 +69,9 @@ pub record PassingBound {At : Type 0} (door : Table At) : Type 0 where
   pub twice : Always door (AtMostTwice door)
   pub once : Always door (OnceIfIdle door)
   pub itself : Always door (NotItself door)
+  pub twice_until_idle : Always door (AtMostTwiceUntilIdle door)
+  pub once_until_idle : Always door (OnceIfIdleUntilIdle door)
+  pub once_itself : Always door (OnceItself door)
   pub row : Always door (RowCounts door)
   pub notes : Always door (NotesTell door)
   pub row_kept : Always door (RowKept door)
@@ -74,6 +90,9 @@ pub record Fair {At : Type 0} (door : Table At) (start : State At) (past : List 
   pub twice : AtMostTwice door start past s
   pub once : OnceIfIdle door start past s
   pub itself : NotItself door start past s
+  pub twice_until_idle : AtMostTwiceUntilIdle door start past s
+  pub once_until_idle : OnceIfIdleUntilIdle door start past s
+  pub once_itself : OnceItself door start past s
   pub row : RowCounts door start past s
   pub notes : NotesTell door start past s
   pub row_kept : RowKept door start past s

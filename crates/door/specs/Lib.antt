@@ -10,6 +10,7 @@ pub mod States
 pub mod Calls
 pub mod History
 pub mod Turns
+pub mod Takes
 pub mod Meaning
 pub mod Rules
 pub mod Law

@@ -13,10 +13,10 @@ pub mod arm;
 pub mod refusal;
 // The calls of a gate.
 pub mod call;
-// How often an arm is passed, of any door.
+// How often an arm is passed, and how often an arm inside takes a lock, of any door.
 mod passing;
 
 pub use call::Call;
-pub use passing::passing_bound;
+pub use passing::{passing_bound, taking_bound};
 pub use phase::Phase;
 pub use refusal::Refusal;

@@ -1,8 +1,15 @@
 ghost use Rattle.door.specs.Law.{PassingBound};
 ghost use Rattle.door.specs.Rules.{Phased, ShowsRules};
 ghost use Rattle.door.specs.Table.{Table};
+ghost use Rattle.door.specs.Takes.{TakingBound};
 
 /// How often an arm is passed, of any door with positions P: it follows from the rules alone. The call does nothing; its contract is the law.
 pub fn passing_bound<P>()
     ensures { (door : Table P) → Phased door → ShowsRules door → PassingBound door }
+{}
+
+/// How often an arm takes what it takes at most once a visit and only while inside, such as a lock among the arms inside,
+/// of any door with positions P. The call does nothing; its contract is the law.
+pub fn taking_bound<P>()
+    ensures { (door : Table P) → Phased door → ShowsRules door → TakingBound door }
 {}
