@@ -1,4 +1,5 @@
 ghost use Rattle.std.specs.Prelude.{◌≡◌};
+ghost use Rattle.bank.specs.Lent.{unlogged};
 
 use bank::Bank;
 use std::cell::Cell;
@@ -67,7 +68,7 @@ impl Bank for CountingBank {
 
     ghost values = { λ s. s.registers.items };
 
-    ghost memory = { λ s. 0 };
+    ghost memory = { λ s. unlogged 0 };
 
     fn read(&self, i: usize) -> Option<u64> {
         add(&self.accesses.reads);

@@ -4,6 +4,7 @@
 #![tactic(auto)]
 
 ghost use Rattle.std.specs.Prelude.{◌≡◌, ◌≤◌, replicate, IfOk};
+ghost use Rattle.bank.specs.Lent.{unlogged};
 ghost use Rattle.door.specs.Limits.{arm_limit};
 ghost use Rattle.door.specs.Making.{arms_for};
 ghost use Rattle.door.specs.States.{made};
@@ -59,7 +60,7 @@ fn gate_over<D: Door>(
     registers: usize,
     wanted: usize,
 ) -> anyhow::Result<Watched<D>>
-    ensures { IfOk result (λ g. g.gate ≡ made D.table 0 255 1 wanted (replicate registers 9)) }
+    ensures { IfOk result (λ g. g.gate ≡ made D.table (unlogged 0) 255 1 wanted (replicate registers 9)) }
 {
     let accesses = Rc::new(rt.alloc(), Accesses::none())?;
     let bank = CountingBank::new(vec![in rt.alloc(); 9; registers]?, accesses.clone()?);

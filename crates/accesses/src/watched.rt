@@ -1,5 +1,6 @@
 ghost use Rattle.std.specs.Prelude.{◌≡◌, ℕ, IsTrue, IfOk};
 ghost use Rattle.gate.specs.Gates.{IsGate};
+ghost use Rattle.bank.specs.Lent.{unlogged};
 ghost use Rattle.door.specs.Calls.{after, knows, way_answer, answered, refusal_of};
 ghost use Rattle.door.specs.States.{made, bit_of};
 ghost use Rattle.door.specs.declared.call.Call.TheVariants.{Begin, Step, Admit, Leave};
@@ -66,7 +67,7 @@ impl<D: Door> Watched<D> {
         number: u16,
         wanted: usize,
     ) -> Watched<D>
-        ensures { result.gate ≡ made D.table 0 255 number wanted bank.registers.items }
+        ensures { result.gate ≡ made D.table (unlogged 0) 255 number wanted bank.registers.items }
     {
         let before = accesses.count();
         let gate = Gate::<CountingBank, D>::make(bank, number, wanted);

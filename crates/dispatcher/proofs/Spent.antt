@@ -2,6 +2,7 @@
 use Rattle.std.proofs.Common.{◌≡◌, ℕ, zero, suc, ◌-◌, true, false, T, List, [], ◌∷◌, get_or, set, replicate, Some, None, Option, subst, sym, refl, ◌∙◌, arith}
 use Rattle.std.proofs.lemmas.Bool.Decides.{nat_tests}
 use Rattle.std.proofs.lemmas.List.{get_or-set_same, get_or-set_other, set_past, length-set}
+use Rattle.bank.specs.Lent.{Lent}
 use Rattle.door.specs.Limits.{arm_limit}
 use Rattle.door.specs.Arms.{fresh, no_arm}
 use Rattle.door.specs.Calls.{refusal_of, knows, unless, with_visit, arm_after, stepped, done, after, run}
@@ -63,5 +64,5 @@ module _ {At : Type 0} (door : Table At) where
   serving_spent s (Some i) u = by (λ cs. NoPassOut door (run door s cs)) (is_inside door s i) _ _ (λ y. admitted_left s i y u)
       (λ _. unless_both (refusal_of door s (Step i)) (stepped door i s) s (NoPassOut door) (λ _. stepped_so s i u) u)
 
-  pub started_spent : (memory high number wanted : ℕ) (regs : List ℕ) → NoPassOut door (made door memory high number wanted regs)
+  pub started_spent : (memory : Lent) (high number wanted : ℕ) (regs : List ℕ) → NoPassOut door (made door memory high number wanted regs)
   started_spent memory high number wanted regs i = fresh_unmarked arm_limit (i - 1)

@@ -2,6 +2,7 @@
 use Rattle.std.proofs.Common.{ℕ, ◌+◌, ◌-◌, ◌≤◌, Bool, true, false, List, [], ◌∷◌, length, get_or, set, replicate, arith}
 use Rattle.std.proofs.lemmas.List.{get_or-set_same, get_or-set_other, set_past, get_or-replicate, get_or_past, length-replicate}
 use Rattle.std.proofs.lemmas.Bool.{cond_both}
+use Rattle.bank.specs.Lent.{Lent}
 use Rattle.door.specs.Limits.{arm_limit, visit_limit, tally_limit}
 use Rattle.door.specs.Table.{Table}
 use Rattle.door.specs.Arms.{fresh, no_arm}
@@ -91,7 +92,7 @@ module _ {At : Type 0} (door : Table At) where
   run_bounded [] s h = h
   run_bounded (c ∷ cs) s h = run_bounded cs (after door s c) (after_bounded s c h)
 
-  pub made_bounded : (memory high number wanted : ℕ) (regs : List ℕ) → Bounded (made door memory high number wanted regs)
+  pub made_bounded : (memory : Lent) (high number wanted : ℕ) (regs : List ℕ) → Bounded (made door memory high number wanted regs)
   made_bounded memory high number wanted regs = record {
     few = arms_few door high (length regs) wanted;
     each = kept_replicate BoundedArm arm_limit (fresh door) (no_arm door) fresh_bounded no_arm_bounded;

@@ -2,6 +2,7 @@
 use Rattle.std.proofs.Common.{◌≡◌, ℕ, ◌+◌, ◌-◌, ◌≤◌, Bool, true, false, cond, T, ◌↔◌, ◌⊎◌, inr, List, [], ◌∷◌, length, None, Ok, Result, sym, refl, ap, ◌∙◌, subst, ⊎_elim, arith}
 use Rattle.std.proofs.lemmas.Grind.{not_there}
 use Rattle.std.proofs.lemmas.List.{length-replicate, get_or-replicate}
+use Rattle.bank.specs.Lent.{Lent}
 use Rattle.door.specs.Limits.{arm_limit}
 use Rattle.door.specs.Table.{Table}
 use Rattle.door.specs.Arms.{fresh, no_arm}
@@ -27,7 +28,7 @@ use Rattle.door.proofs.Rows.{Row, Kept, kept_run}
 yes_is : (b : Bool) → (◌≡◌ {A = Result Bool Refusal} (Ok b) (Ok true)) ↔ T b
 yes_is b = grind arith
 
-module _ {At : Type 0} {door : Table At} (phased : Phased door) (rules : ShowsRules door) (memory high number wanted : ℕ) (regs : List ℕ) (past : List Call) where
+module _ {At : Type 0} {door : Table At} (phased : Phased door) (rules : ShowsRules door) (memory : Lent) (high number wanted : ℕ) (regs : List ℕ) (past : List Call) where
   abbrev start : State At
   start = made door memory high number wanted regs
 

@@ -3,6 +3,7 @@ use Rattle.std.proofs.Common.{◌≡◌, ℕ, zero, suc, ◌+◌, ◌-◌, ◌�
 use Rattle.std.proofs.lemmas.Bool.{cases_eq}
 use Rattle.std.proofs.lemmas.Bool.Decides.{nat_tests}
 use Rattle.std.proofs.lemmas.List.{get_or-set_same, get_or-set_other, set_past}
+use Rattle.bank.specs.Lent.{Lent}
 use Rattle.door.specs.Limits.{arm_limit}
 use Rattle.door.specs.Phases.{same_phase}
 use Rattle.door.specs.Table.{Table}
@@ -173,7 +174,7 @@ module _ {At : Type 0} (door : Table At) where
       rw (sym (phase_meant s P.W w lo hi)) (grind (arith, nat_tests))
 
   -- from a making on
-  module _ (phased : Phased door) (memory high number wanted : ℕ) (regs : List ℕ) where
+  module _ (phased : Phased door) (memory : Lent) (high number wanted : ℕ) (regs : List ℕ) where
     abbrev start : State At
     start = made door memory high number wanted regs
 

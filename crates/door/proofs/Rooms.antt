@@ -5,10 +5,11 @@ use Rattle.std.proofs.lemmas.List.FromFn.{length-map-range_with_len, map-range_w
 use Rattle.std.specs.List.{range_with_len}
 use Rattle.std.proofs.lemmas.Bool.{le-leb}
 use Rattle.std.proofs.lemmas.Bool.Decides.{nat_tests}
+use Rattle.bank.specs.Lent.{Lent, touched}
 use Rattle.bank.specs.Registers.{written}
 use Rattle.door.specs.Limits.{arm_limit}
 use Rattle.door.specs.Table.{Table}
-use Rattle.door.specs.Making.{largest, arms_for, IsLargest, cleared}
+use Rattle.door.specs.Making.{largest, arms_for, IsLargest, cleared, cleared_memory}
 
 seam : (xs ys : List ℕ) (i y v : ℕ) → length xs ≡ i → set (xs ++ y ∷ ys) i v ≡ (xs ++ v ∷ []) ++ ys
 seam xs ys i y v e = ap (λ k. set (xs ++ y ∷ ys) k v) (sym e) ∙ (set-append_seam xs y ys v ∙ sym (append_assoc xs (v ∷ []) ys))
@@ -83,3 +84,6 @@ module _ {At : Type 0} (door : Table At) where
       ∙ seam xs (drop (suc i) regs) i (get_or regs i 0) (door.first i) (length-map-range_with_len door.first 0 i)
       ∙ ap (λ t. t ++ drop (suc i) regs) (sym (map-range_with_len_more door.first 0 i i (omega arith)))
       ∙ ap (λ k. map door.first (range_with_len 0 (i + 1)) ++ drop k regs) up
+
+  pub cleared_memory_more : (i : ℕ) (memory : Lent) → touched (cleared_memory door i memory) i (door.first i) ≡ cleared_memory door (i + 1) memory
+  cleared_memory_more i memory = let up : suc i ≡ i + 1 = omega arith in ap (λ k. cleared_memory door k memory) up

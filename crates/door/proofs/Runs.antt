@@ -1,12 +1,13 @@
 -- What no call alters.
-use Rattle.std.proofs.Common.{◌≡◌, ℕ, ◌-◌, ◌≤◌, List, [], ◌∷◌, length, set, sym, refl, ap, ◌∙◌, arith}
+use Rattle.std.proofs.Common.{◌≡◌, ℕ, zero, suc, ◌-◌, ◌≤◌, List, [], ◌∷◌, length, set, sym, refl, ap, ◌∙◌, arith}
 use Rattle.std.proofs.lemmas.List.{length-set}
+use Rattle.bank.specs.Lent.{Lent}
 use Rattle.door.specs.Law.{Origin}
 use Rattle.door.specs.Limits.{arm_limit}
-use Rattle.door.specs.Making.{arms_for}
+use Rattle.door.specs.Making.{arms_for, cleared_memory, made_memory}
 use Rattle.door.specs.Registers.{regs_after}
 use Rattle.door.specs.Table.{Table}
-use Rattle.door.specs.States.{State, phase_at}
+use Rattle.door.specs.States.{State, made, phase_at}
 use Rattle.door.specs.Calls.{refusal_of, access_at, arm_after, stepped, done, after, run}
 use Rattle.door.specs.declared.access.Access.{Access}
 use Rattle.door.specs.declared.call.Call.{Call}
@@ -30,11 +31,7 @@ module _ {At : Type 0} (door : Table At) where
       let size : s.n ≡ arms_for door p.high (length p.regs) p.wanted = sym (ap (λ t. t.n) p.leads) ∙ run_n p.calls _ in
       omega (arith, arms_few door p.high (length p.regs) p.wanted)
 
-  -- nor over which memory the bank is, nor how high its registers go
-  pub run_memory : (cs : List Call) (s : State At) → (run door s cs).memory ≡ s.memory
-  run_memory [] s = refl
-  run_memory (c ∷ cs) s = run_memory cs (after door s c) ∙ (let x : (after door s c).memory ≡ s.memory = grind arith in x)
-
+  -- nor how high the registers go
   pub run_high : (cs : List Call) (s : State At) → (run door s cs).high ≡ s.high
   run_high [] s = refl
   run_high (c ∷ cs) s = run_high cs (after door s c) ∙ (let x : (after door s c).high ≡ s.high = grind arith in x)
@@ -63,3 +60,22 @@ module _ {At : Type 0} (door : Table At) where
   pub run_regs : (cs : List Call) (s : State At) → length (run door s cs).regs ≡ length s.regs
   run_regs [] s = refl
   run_regs (c ∷ cs) s = run_regs cs (after door s c) ∙ after_regs s c
+
+  -- nor over which memory the bank is; a making neither
+  pub after_name : (s : State At) (c : Call) → (after door s c).memory.name ≡ s.memory.name
+  after_name s c = grind arith
+
+  pub run_name : (cs : List Call) (s : State At) → (run door s cs).memory.name ≡ s.memory.name
+  run_name [] s = refl
+  run_name (c ∷ cs) s = run_name cs (after door s c) ∙ after_name s c
+
+  cleared_name : (memory : Lent) (k : ℕ) → (cleared_memory door k memory).name ≡ memory.name
+  cleared_name memory zero = refl
+  cleared_name memory (suc k) = cleared_name memory k
+
+  made_name : (n : ℕ) (memory : Lent) → (made_memory door n memory).name ≡ memory.name
+  made_name n memory = let e = cleared_name memory (door.room n) in grind arith
+
+  pub memory_name : (memory : Lent) (high number wanted : ℕ) (regs : List ℕ) (cs : List Call) → (run door (made door memory high number wanted regs) cs).memory.name ≡ memory.name
+  memory_name memory high number wanted regs cs =
+      run_name cs (made door memory high number wanted regs) ∙ made_name (arms_for door high (length regs) wanted) memory

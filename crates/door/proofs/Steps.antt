@@ -1,6 +1,7 @@
 -- A step put together from what its parts did.
 use Rattle.std.proofs.Common.{◌≡◌, ℕ, ◌+◌, ◌-◌, Bool, cond, List, set, None, sym, ap, ◌∙◌}
-use Rattle.door.specs.Registers.{regs_after, turns_bit, value_read}
+use Rattle.bank.specs.Lent.{Lent}
+use Rattle.door.specs.Registers.{regs_after, memory_after, turns_bit, value_read}
 use Rattle.door.specs.Table.{Table}
 use Rattle.door.specs.Arms.{side_of, advanced}
 use Rattle.door.specs.Tallies.{tallied}
@@ -12,19 +13,20 @@ use Rattle.door.specs.declared.call.Call.TheVariants.{Step}
 use Rattle.door.specs.declared.phase.Phase.{Phase}
 
 module _ {At : Type 0} (door : Table At) where
-  pub put_together : (s : State At) (i value : ℕ) (r r' : Arm At) (from to : Phase) (access : Access) (regs : List ℕ) (turned : Bool) (turn : ℕ) (arms : List (Arm At))
+  pub put_together : (s : State At) (i value : ℕ) (r r' : Arm At) (from to : Phase) (access : Access) (memory : Lent) (regs : List ℕ) (turned : Bool) (turn : ℕ) (arms : List (Arm At))
       → r ≡ arm_at door s i
       → from ≡ door.phase r.position
       → access ≡ door.access i (side_of r.side) r.position
       → value ≡ value_read s.regs access
+      → memory ≡ memory_after s.memory access
       → regs ≡ regs_after s.high s.regs access
       → turned ≡ turns_bit s.high s.regs access
       → turn ≡ cond turned 1 0
       → r' ≡ advanced door s.n value r
       → to ≡ door.phase r'.position
       → arms ≡ tallied door (i - 1) from to (set s.arms (i - 1) r')
-      → record s { regs = regs; arms = arms; turns = s.turns + turn } ≡ stepped door i s
-  put_together s i value r r' from to access regs turned turn arms er ef ea ev eg eo ek er' et em = cc
+      → record s { memory = memory; regs = regs; arms = arms; turns = s.turns + turn } ≡ stepped door i s
+  put_together s i value r r' from to access memory regs turned turn arms er ef ea ev el eg eo ek er' et em = cc
 
   pub step_after : (s t : State At) (i : ℕ) → refusal_of door s (Step i) ≡ None → t ≡ stepped door i s → t ≡ after door s (Step i)
   step_after s t i may e = e ∙ ap (λ r. unless r (stepped door i s) s) (sym may)

@@ -4,6 +4,7 @@ use Rattle.std.proofs.lemmas.Bool.{cases_eq}
 use Rattle.std.proofs.lemmas.Bool.Decides.{nat_tests}
 use Rattle.std.proofs.lemmas.Grind.{not_there}
 use Rattle.std.proofs.lemmas.List.{get_or-set_same, get_or-set_other}
+use Rattle.bank.specs.Lent.{Lent}
 use Rattle.door.specs.Limits.{arm_limit, visit_limit}
 use Rattle.door.specs.Phases.{same_phase}
 use Rattle.door.specs.Registers.{group, regs_after, turns_bit}
@@ -192,7 +193,7 @@ module _ {At : Type 0} (door : Table At) where
       omega (arith, y)
 
 -- from a making on
-module _ {At : Type 0} {door : Table At} (phased : Phased door) (rules : ShowsRules door) (bits : ShowsBits door) (memory high number wanted : ℕ) (regs : List ℕ) (past : List Call) where
+module _ {At : Type 0} {door : Table At} (phased : Phased door) (rules : ShowsRules door) (bits : ShowsBits door) (memory : Lent) (high number wanted : ℕ) (regs : List ℕ) (past : List Call) where
   abbrev start : State At
   start = made door memory high number wanted regs
 

@@ -6,6 +6,7 @@ use Rattle.std.proofs.lemmas.Bool.{cases_lt}
 use Rattle.std.proofs.lemmas.Bool.Decides.{nat_tests}
 use Rattle.std.proofs.lemmas.List.{get_or-set_same, get_or-set_other, get_or_append_left}
 use Rattle.std.proofs.lemmas.List.FromFn.{length-map-range_with_len}
+use Rattle.bank.specs.Lent.{Lent}
 use Rattle.door.specs.Table.{Table}
 use Rattle.door.specs.Accesses.{can_make, InRoom, ShowsAccesses}
 use Rattle.door.specs.Arms.{no_arm}
@@ -57,7 +58,7 @@ module _ {At : Type 0} (door : Table At) where
   made_at : (n q : ℕ) (regs : List ℕ) → 1 ≤ n → q < door.room n → get_or (made_regs door n regs) q 0 ≡ get_or (map door.first (range_with_len 0 (door.room n))) q 0
   made_at n q regs some l = let e = cleared_at (door.room n) q regs l in grind (arith, nat_tests)
 
-  pub made_twins : (lent high number wanted : ℕ) (regs : List ℕ) (lent' high' : ℕ) (regs' : List ℕ)
+  pub made_twins : (lent : Lent) (high number wanted : ℕ) (regs : List ℕ) (lent' : Lent) (high' : ℕ) (regs' : List ℕ)
       → arms_for door high' (length regs') wanted ≡ arms_for door high (length regs) wanted
       → Twins (made door lent high number wanted regs) (made door lent' high' number wanted regs')
   made_twins lent high number wanted regs lent' high' regs' e = record {
@@ -106,7 +107,7 @@ module _ {At : Type 0} (door : Table At) where
         let high : s.high ≡ p.high = sym (ap (λ t. t.high) p.leads) ∙ run_high door p.calls _ in
         let few = few_arms door s p in
         let count : arms_for door p.high 1 s.n ≡ s.n = arms_whole door p.high 1 s.n some few (let x = fits.1 in omega arith) (omega arith) in
-        let bit = (bits 0 p.high 0 s.n (7 ∷ []) []).bit in
+        let bit = (bits p.memory p.high 0 s.n (7 ∷ []) []).bit in
         let is = seven (arms_for door p.high 1 s.n) (door.room (arms_for door p.high 1 s.n)) (omega arith) (ap door.room count ∙ (let zero_is : door.room s.n ≡ 0 = omega arith in zero_is)) in
         absurd (omega arith)
   ]

@@ -2,7 +2,7 @@
 use Rattle.std.specs.Prelude.{ℕ, take, ◌+◌, ◌-◌, Bool, true, false, if◌then◌else◌, not, ◌&&◌, ◌||◌, List, [], ◌∷◌, Some, None, Ok, Err, Option, Result, ◌==◌, nat_lt, slice_set}
 use Rattle.std.specs.List.{list_any}
 use Rattle.door.specs.Limits.{visit_limit}
-use Rattle.door.specs.Registers.{value_read, regs_after, turns_bit}
+use Rattle.door.specs.Registers.{value_read, regs_after, memory_after, turns_bit}
 use Rattle.door.specs.Table.{Table}
 use Rattle.door.specs.Arms.{side_of, has_side, advanced}
 use Rattle.door.specs.Tallies.{tallied}
@@ -88,6 +88,7 @@ module _ {At : Type 0} (door : Table At) where
   abbrev pub stepped : ℕ → State At → State At
   stepped i s =
       record s {
+        memory = memory_after s.memory (access_at s i);
         regs = regs_after s.high s.regs (access_at s i);
         arms = tallied door (i - 1) (phase_at door s i) (door.phase (arm_after s i).position) (slice_set s.arms (i - 1) (arm_after s i));
         turns = s.turns + (if turns_bit s.high s.regs (access_at s i) then 1 else 0);

@@ -1,5 +1,6 @@
 -- The fairness of a gate, over any door.
 use Rattle.std.specs.Prelude.{◌≡◌, ℕ, ◌+◌, ◌-◌, ◌*◌, ◌≤◌, Bool, true, false, if◌then◌else◌, T, ◌↔◌, List, Ok, Result, slice_index, slice_index_or}
+use Rattle.bank.specs.Lent.{Lent}
 use Rattle.door.specs.Table.{Table}
 use Rattle.door.specs.States.{State, made, is_arm, arm_at}
 use Rattle.door.specs.Calls.{run, has_way}
@@ -103,13 +104,13 @@ pub record Fair {At : Type 0} (door : Table At) (start : State At) (past : List 
 
 -- a gate in this state is fair, however it was made and whatever was called
 abbrev pub Law : {At : Type 0} → Table At → State At → Type 0
-Law {At} door s = (memory high number wanted : ℕ) (regs : List ℕ) (past : List Call) →
+Law {At} door s = (memory : Lent) (high number wanted : ℕ) (regs : List ℕ) (past : List Call) →
     let start : State At = made door memory high number wanted regs in
     run door start past ≡ s → Fair door start past s
 
 -- a making, and calls since then, that lead to the state s
 pub record Origin {At : Type 0} (door : Table At) (s : State At) : Type 0 where
-  pub memory : ℕ
+  pub memory : Lent
   pub high : ℕ
   pub number : ℕ
   pub wanted : ℕ

@@ -1,6 +1,7 @@
--- How many arms a bank has room for, and its registers when a gate is made.
+-- How many arms a bank has room for, and its registers and memory when a gate is made.
 use Rattle.std.specs.Prelude.{ℕ, ◌<◌, ◌≤◌, zero, suc, min, if◌then◌else◌, List, ◌++◌, drop, map, ◌==◌, nat_le, nat_lt}
 use Rattle.std.specs.List.{range_with_len}
+use Rattle.bank.specs.Lent.{Lent, touched}
 use Rattle.door.specs.Limits.{arm_limit}
 use Rattle.door.specs.Table.{Table}
 
@@ -29,3 +30,11 @@ module _ {At : Type 0} (door : Table At) where
   -- the registers of a gate just made
   abbrev pub made_regs : ℕ → List ℕ → List ℕ
   made_regs n regs = if n == 0 then regs else cleared (door.room n) regs
+
+  -- the memory of the bank then: the first k registers are written once each, from register 0 on
+  abbrev pub cleared_memory : ℕ → Lent → Lent
+  cleared_memory zero memory = memory
+  cleared_memory (suc k) memory = touched (cleared_memory k memory) k (door.first k)
+
+  abbrev pub made_memory : ℕ → Lent → Lent
+  made_memory n memory = if n == 0 then memory else cleared_memory (door.room n) memory

@@ -1,5 +1,6 @@
 -- What an access reads, what it leaves in the registers, and whether it turns the bit.
 use Rattle.std.specs.Prelude.{ℕ, Bool, false, not, ◌&&◌, List, Some, None, Option, ◌==◌, slice_index}
+use Rattle.bank.specs.Lent.{Lent, touched}
 use Rattle.bank.specs.Registers.{replaced, written}
 use Rattle.door.specs.declared.access.Access.{Access}
 use Rattle.door.specs.declared.access.Access.TheVariants.{Read, Write}
@@ -17,6 +18,11 @@ value_read regs x = 0
 abbrev pub regs_after : ℕ → List ℕ → Access → List ℕ
 regs_after high regs (Write q v) = written high regs q v
 regs_after high regs x = regs
+
+-- the memory of the bank after an access: what is written is written once, and nothing else is
+abbrev pub memory_after : Lent → Access → Lent
+memory_after memory (Write q v) = touched memory q v
+memory_after memory x = memory
 
 -- whether a write of v that replaced a value, or none where it was refused, changed it
 abbrev pub changed : ℕ → Option ℕ → Bool

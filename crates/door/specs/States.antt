@@ -1,18 +1,19 @@
 -- The state of a gate.
 use Rattle.std.specs.Prelude.{ℕ, ◌-◌, Bool, if◌then◌else◌, ◌&&◌, List, length, replicate, ◌==◌, nat_le, slice_index, slice_index_or, slice_set}
+use Rattle.bank.specs.Lent.{Lent}
 use Rattle.door.specs.Limits.{arm_limit}
 use Rattle.door.specs.Registers.{group}
 use Rattle.door.specs.Table.{Table}
 use Rattle.door.specs.Arms.{fresh, no_arm}
-use Rattle.door.specs.Making.{made_regs, arms_for}
+use Rattle.door.specs.Making.{made_memory, made_regs, arms_for}
 use Rattle.door.specs.declared.arm.Arm.{Arm}
 use Rattle.door.specs.declared.phase.Phase.{Phase}
 
--- memory: which borrowed memory the bank writes; high: the highest value of a register; number: the gate's;
+-- memory: the memory that the bank writes; high: the highest value of a register; number: the gate's;
 -- n: how many arms; regs: the values of the bank; arms: the records, arm i at i - 1, each at a position of the door;
 -- turns: how often the bit turned since the making
 pub record State (At : Type 0) : Type 0 where
-  pub memory : ℕ
+  pub memory : Lent
   pub high : ℕ
   pub number : ℕ
   pub n : ℕ
@@ -38,10 +39,10 @@ module _ {At : Type 0} where
 
 module _ {At : Type 0} (door : Table At) where
   -- a gate just made over a bank
-  abbrev pub made : ℕ → ℕ → ℕ → ℕ → List ℕ → State At
+  abbrev pub made : Lent → ℕ → ℕ → ℕ → List ℕ → State At
   made memory high number wanted regs =
       record {
-        memory = memory;
+        memory = made_memory door (arms_for door high (length regs) wanted) memory;
         high = high;
         number = number;
         n = arms_for door high (length regs) wanted;

@@ -1,5 +1,6 @@
 -- What an arm takes at most once a visit and only while inside, such as a lock among the arms inside: how often, as a list of events tells it.
 use Rattle.std.specs.Prelude.{ℕ, ◌+◌, ◌≤◌, Bool, false, if◌then◌else◌, not, ◌&&◌, ◌||◌, T, List, [], ◌∷◌, ◌==◌}
+use Rattle.bank.specs.Lent.{Lent}
 use Rattle.door.specs.Table.{Table}
 use Rattle.door.specs.States.{State, made, is_arm}
 use Rattle.door.specs.Calls.{after, run}
@@ -38,6 +39,6 @@ module _ {At : Type 0} (door : Table At) where
 
 -- from every making on; the meaning and the rules alone give it
 abbrev pub TakingBound : {At : Type 0} → Table At → Type 0
-TakingBound {At} door = (memory high number wanted : ℕ) (regs : List ℕ) (events : List Event) →
+TakingBound {At} door = (memory : Lent) (high number wanted : ℕ) (regs : List ℕ) (events : List Event) →
     let start : State At = made door memory high number wanted regs in
     TakenAtMostTwice door start events (run door start (calls_of events))

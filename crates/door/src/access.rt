@@ -1,5 +1,5 @@
 ghost use Rattle.std.specs.Prelude.{◌≡◌, slice_index};
-ghost use Rattle.door.specs.Registers.{value_read, regs_after, turns_bit};
+ghost use Rattle.door.specs.Registers.{value_read, regs_after, memory_after, turns_bit};
 
 use bank::Bank;
 
@@ -34,12 +34,12 @@ pub fn value_at<B: Bank>(bank: &B, i: usize) -> u64
 }
 
 impl Access {
-    /// Makes the access, and answers what came of it. What the bank refuses to write changes nothing.
+    /// Makes the access and no other, and answers what came of it. What the bank refuses to write changes nothing.
     pub fn make<B: Bank>(self, bank: &mut B) -> Outcome
         ensures value { result.value ≡ value_read (B.values bank.old) self }
         ensures turned { result.turned ≡ turns_bit B.HIGHEST (B.values bank.old) self }
         ensures after { B.values bank.new ≡ regs_after B.HIGHEST (B.values bank.old) self }
-        ensures lent { B.memory bank.new ≡ B.memory bank.old }
+        ensures lent { B.memory bank.new ≡ memory_after (B.memory bank.old) self }
     {
         match self {
             Access::Nothing => Outcome {

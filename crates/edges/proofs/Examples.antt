@@ -1,5 +1,6 @@
 -- Three histories of the three-bit door, worked out.
 use Rattle.std.proofs.Common.{◌≡◌, ℕ, true, false, List, [], ◌∷◌, ◌++◌, get_or, replicate, refl}
+use Rattle.bank.specs.Lent.{unlogged}
 use Rattle.door.specs.Making.{largest}
 use Rattle.door.specs.States.{State, made, arm_at, phase_at}
 use Rattle.door.specs.Calls.{run, has_way}
@@ -15,7 +16,7 @@ steps_of i k = replicate k (step i)
 
 -- arm 1 goes inside past arm 2, leaves, and is idle again
 abbrev first : State ThreeBits
-first = made three_bits 0 1 0 2 (replicate 9 1)
+first = made three_bits (unlogged 0) 1 0 2 (replicate 9 1)
 
 abbrev one_past : List Call
 one_past = begin 1 ∷ [] ++ steps_of 1 5 ++ (begin 2 ∷ []) ++ steps_of 2 5 ++ steps_of 1 6 ++ (admit 1 ∷ leave 0 1 ∷ []) ++ steps_of 1 3
@@ -42,7 +43,7 @@ way_of_second = refl
 
 -- arm 2 goes inside twice past arm 1
 abbrev second : State ThreeBits
-second = made three_bits 0 255 7 3 (replicate 10 9)
+second = made three_bits (unlogged 0) 255 7 3 (replicate 10 9)
 
 abbrev two_past : List Call
 two_past = begin 2 ∷ begin 3 ∷ [] ++ steps_of 2 5 ++ steps_of 3 5 ++ steps_of 3 9 ++ (admit 3 ∷ leave 7 3 ∷ []) ++ steps_of 3 2 ++ (begin 1 ∷ []) ++ steps_of 1 5 ++ steps_of 2 1

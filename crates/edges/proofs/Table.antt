@@ -10,6 +10,7 @@ use Rattle.schedule.specs.Numbers.{groups, number_from}
 use Rattle.schedule.specs.declared.number.Number.{Number}
 use Rattle.schedule.specs.Reading.{Contents, contents, says, orders_from}
 use Rattle.schedule.specs.declared.fault.PlayFault.{PlayFault}
+use Rattle.bank.specs.Lent.{Lent, unlogged}
 use Rattle.door.specs.Table.{Table}
 use Rattle.door.specs.Calls.{refusal_of, way_answer}
 use Rattle.gate.specs.Answers.{tally_answer}
@@ -135,11 +136,11 @@ played file memory short room = cond-true _ _ _ short ∙ cond-true _ _ _ (le-le
 -- of a door, and a bank under it
 module _ {At : Type 0} (door : Table At) (highest : ℕ) (registers : List ℕ) where
   -- what a play leaves is the text
-  abbrev report_test : ℕ → List ℕ → Contents → Bool
+  abbrev report_test : Lent → List ℕ → Contents → Bool
   report_test lent text c = bytes_eq (play_text door lent highest registers c) text
 
-  -- the test of a case; a play may be over any borrowed memory
-  abbrev test : ℕ → Case At → Bool
+  -- the test of a case; a play may be over any memory
+  abbrev test : Lent → Case At → Bool
   test lent (writes number bytes) = bytes_eq (groups number) bytes
   test lent (reads bytes number) = ok_test (number_read_test number (length bytes)) (number_from 0 bytes)
   test lent (opens file arms) = ok_test (contents_test arms) (says file)
@@ -156,7 +157,7 @@ module _ {At : Type 0} (door : Table At) (highest : ℕ) (registers : List ℕ) 
   test lent (turned s times) = eqb s.turns times
 
   -- and comes to its report
-  same_report : (lent : ℕ) (file text memory : List ℕ) (r : Result Contents PlayFault)
+  same_report : (lent : Lent) (file text memory : List ℕ) (r : Result Contents PlayFault)
       → ok_test (report_test lent text) r ≡ true → playable file (length memory) ≡ r → Plays door highest registers lent file text memory
   same_report lent file text memory r t e =
       let P : Contents → Type 0 = λ c. play_text door lent highest registers c ≡ text in
@@ -167,46 +168,46 @@ module _ {At : Type 0} (door : Table At) (highest : ℕ) (registers : List ℕ) 
       }
 
   -- a case whose test passes holds
-  sound : (c : Case At) → ((lent : ℕ) → test lent c ≡ true) → Holds door highest registers c
-  sound (writes number bytes) t = same_bytes (groups number) bytes (t 0)
+  sound : (c : Case At) → ((lent : Lent) → test lent c ≡ true) → Holds door highest registers c
+  sound (writes number bytes) t = same_bytes (groups number) bytes (t (unlogged 0))
   sound (reads bytes number) t =
       let N : Number = record { value = number; next = length bytes } in
-      let h = is_ok {P = λ n. n ≡ N} (number_read_test number (length bytes)) (same_number number (length bytes)) (number_from 0 bytes) (t 0) in h.1 ∙ ap Ok h.2
+      let h = is_ok {P = λ n. n ≡ N} (number_read_test number (length bytes)) (same_number number (length bytes)) (number_from 0 bytes) (t (unlogged 0)) in h.1 ∙ ap Ok h.2
   sound (opens file arms) t =
-      let h = is_ok {P = λ c. c ≡ contents arms []} (contents_test arms) (same_contents arms) (says file) (t 0) in h.1 ∙ ap Ok h.2
+      let h = is_ok {P = λ c. c ≡ contents arms []} (contents_test arms) (same_contents arms) (says file) (t (unlogged 0)) in h.1 ∙ ap Ok h.2
   sound (fails file number place order layer) t =
-      is_err (fault_test number place order (codes layer)) (same_fault number place order (codes layer)) (says file) (t 0)
-  sound (tells file line) t = is_err (line_test (codes line)) (λ f. same_bytes (fault_text f) (codes line)) (says file) (t 0)
+      is_err (fault_test number place order (codes layer)) (same_fault number place order (codes layer)) (says file) (t (unlogged 0))
+  sound (tells file line) t = is_err (line_test (codes line)) (λ f. same_bytes (fault_text f) (codes line)) (says file) (t (unlogged 0))
   sound (plays file text) t =
       λ lent memory room.
       let both = and_parts (leb (length file) file_limit) (ok_test (report_test lent (codes text)) (says file)) (t lent) in
       same_report lent file (codes text) memory (says file) both.1 (played file memory both.0 room)
-  sound (gives high room wanted arms) t = eqb-true (arms_for door high room wanted) arms (t 0)
-  sound (bars high) t = λ room wanted. cond-true _ _ _ (t 0)
-  sound (accepts s call) t = is_none (refusal_of door s call) (t 0)
-  sound (refuses s call number) t = is_some (number_test number) (λ r. eqb-true (refusal_number r) number) (refusal_of door s call) (t 0)
+  sound (gives high room wanted arms) t = eqb-true (arms_for door high room wanted) arms (t (unlogged 0))
+  sound (bars high) t = λ room wanted. cond-true _ _ _ (t (unlogged 0))
+  sound (accepts s call) t = is_none (refusal_of door s call) (t (unlogged 0))
+  sound (refuses s call number) t = is_some (number_test number) (λ r. eqb-true (refusal_number r) number) (refusal_of door s call) (t (unlogged 0))
   sound (frees s i free) t =
-      let h = is_ok {P = λ b. b ≡ free} (same_bool free) (is_bool free) (way_answer door s i) (t 0) in h.1 ∙ ap Ok h.2
-  sound (counts s w b times) t = is_ok (count_test times) (λ c. eqb-true c.count times) (tally_answer door s w b) (t 0)
-  sound (notes s w b idle) t = is_ok (note_test idle) (λ c. is_bool idle c.idle) (tally_answer door s w b) (t 0)
-  sound (turned s times) t = eqb-true s.turns times (t 0)
+      let h = is_ok {P = λ b. b ≡ free} (same_bool free) (is_bool free) (way_answer door s i) (t (unlogged 0)) in h.1 ∙ ap Ok h.2
+  sound (counts s w b times) t = is_ok (count_test times) (λ c. eqb-true c.count times) (tally_answer door s w b) (t (unlogged 0))
+  sound (notes s w b idle) t = is_ok (note_test idle) (λ c. is_bool idle c.idle) (tally_answer door s w b) (t (unlogged 0))
+  sound (turned s times) t = eqb-true s.turns times (t (unlogged 0))
 
   -- every case of a list passes, so each holds
-  abbrev all_pass : ℕ → List (Case At) → Bool
+  abbrev all_pass : Lent → List (Case At) → Bool
   all_pass lent [] = true
   all_pass lent (c ∷ cs) = test lent c && all_pass lent cs
 
-  each : (cs : List (Case At)) → ((lent : ℕ) → all_pass lent cs ≡ true) → EachHolds door highest registers cs
+  each : (cs : List (Case At)) → ((lent : Lent) → all_pass lent cs ≡ true) → EachHolds door highest registers cs
   each [] t k other h = absurd (not-suc-le-zero h)
   each (c ∷ cs) t zero other h = sound c (λ lent. (and_parts (test lent c) (all_pass lent cs) (t lent)).0)
   each (c ∷ cs) t (suc k) other h = each cs (λ lent. (and_parts (test lent c) (all_pass lent cs) (t lent)).1) k other (le_of_suc-le-suc h)
 
 -- both tables pass: computed
-three_bit_passed : (lent : ℕ) → all_pass three_bits T.highest T.registers lent T.table ≡ true
+three_bit_passed : (lent : Lent) → all_pass three_bits T.highest T.registers lent T.table ≡ true
 unfolding orders_from largest digits
 three_bit_passed lent = refl
 
-four_valued_passed : (lent : ℕ) → all_pass four_valued V.highest V.registers lent V.table ≡ true
+four_valued_passed : (lent : Lent) → all_pass four_valued V.highest V.registers lent V.table ≡ true
 unfolding orders_from largest digits
 four_valued_passed lent = refl
 

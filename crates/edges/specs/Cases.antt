@@ -5,6 +5,7 @@ use Rattle.schedule.specs.Faults.{fault_number, fault_place, fault_order, fault_
 use Rattle.schedule.specs.Numbers.{groups, number_from}
 use Rattle.schedule.specs.Reading.{contents, says}
 use Rattle.schedule.specs.declared.fault.PlayFault.{PlayFault}
+use Rattle.bank.specs.Lent.{Lent, unlogged}
 use Rattle.door.specs.Table.{Table}
 use Rattle.door.specs.Arms.{fresh}
 use Rattle.door.specs.Calls.{refusal_of, way_answer, with_visit}
@@ -57,14 +58,14 @@ Faulty file P = (fault : PlayFault) × (says file ≡ Err fault) × P fault
 module _ {At : Type 0} (door : Table At) (highest : ℕ) (registers : List ℕ) where
   -- a gate over the bank after the orders of a file
   abbrev pub gate_after : ℕ → List ℕ → State At
-  gate_after arms file = obeyed_by door (says file) (made door 0 highest 0 arms registers)
+  gate_after arms file = obeyed_by door (says file) (made door (unlogged 0) highest 0 arms registers)
 
   -- a gate whose arm 1 has begun so many visits and is idle
   abbrev pub gate_visited : ℕ → State At
-  gate_visited visits = with_arm 1 (with_visit door.idle visits false (fresh door)) (made door 0 highest 0 1 registers)
+  gate_visited visits = with_arm 1 (with_visit door.idle visits false (fresh door)) (made door (unlogged 0) highest 0 1 registers)
 
-  -- a play over a bank in any borrowed memory, with this report memory, answers the length of a text, and leaves the text at the start of the memory
-  pub record Plays (lent : ℕ) (file text memory : List ℕ) : Type 0 where
+  -- a play over a bank in any memory, with this report memory, answers the length of a text, and leaves the text at the start of the memory
+  pub record Plays (lent : Lent) (file text memory : List ℕ) : Type 0 where
     pub answer : play_answer door lent highest registers (playable file (length memory)) ≡ Ok (length text)
     pub report : play_memory door lent highest registers memory (playable file (length memory)) ≡ overwritten memory text
 
@@ -76,7 +77,7 @@ module _ {At : Type 0} (door : Table At) (highest : ℕ) (registers : List ℕ) 
   Holds (fails file number place order layer) =
       Faulty file (λ f. (fault_number f ≡ number) × (fault_place f ≡ place) × (fault_order f ≡ order) × (layer_word (fault_layer f) ≡ codes layer))
   Holds (tells file line) = Faulty file (λ f. fault_text f ≡ codes line)
-  Holds (plays file text) = (lent : ℕ) (memory : List ℕ) → report_room ≤ length memory → Plays lent file (codes text) memory
+  Holds (plays file text) = (lent : Lent) (memory : List ℕ) → report_room ≤ length memory → Plays lent file (codes text) memory
   Holds (gives high room wanted arms) = arms_for door high room wanted ≡ arms
   Holds (bars high) = (room wanted : ℕ) → arms_for door high room wanted ≡ 0
   Holds (accepts s call) = refusal_of door s call ≡ None

@@ -3,6 +3,7 @@ use Rattle.std.proofs.Common.{◌≡◌, ℕ, ◌-◌, ◌*◌, ◌^◌, ◌<◌
 use Rattle.std.proofs.lemmas.Bool.Decides.{nat_tests}
 use Rattle.std.proofs.lemmas.List.{get_or-set_same}
 use borrow.Author.Rules.{scaled_Fits}
+use Rattle.bank.specs.Lent.{unlogged}
 use Rattle.door.specs.Calls.{knows}
 use Rattle.door.specs.Limits.{arm_limit}
 use Rattle.door.specs.Table.{Table}
@@ -13,5 +14,5 @@ place_fits i size = scaled_Fits i arm_limit size
 
 -- whatever the bank holds
 pub marked_known : {At : Type 0} (door : Table At) (number n i : ℕ) (arms : List (Arm At)) (a : Arm At) → a.out ≡ true → 1 ≤ i → i ≤ n → n ≤ length arms
-    → IsTrue (knows door (record { memory = 0; high = 0; number = number; n = n; regs = []; arms = set arms (i - 1) a; turns = 0 }) number i)
+    → IsTrue (knows door (record { memory = unlogged 0; high = 0; number = number; n = n; regs = []; arms = set arms (i - 1) a; turns = 0 }) number i)
 marked_known door number n i arms a out low high long = grind (arith, nat_tests, get_or-set_same)

@@ -59,7 +59,7 @@ pub fn carry_out<B: Bank, D: Door>(
     calls: &[Call],
 ) -> Gate<B, D>
     ensures state { result ≡ run D.table (made D.table (B.memory bank) B.HIGHEST number wanted (B.values bank)) calls.now }
-    ensures lent { result.memory ≡ B.memory bank }
+    ensures lent { result.memory.name ≡ (B.memory bank).name }
     ensures law { Fair D.table (made D.table (B.memory bank) B.HIGHEST number wanted (B.values bank)) calls.now result }
     ensures rules { ShowsRules D.table }
     ensures bound { PassingBound D.table }

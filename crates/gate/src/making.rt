@@ -1,7 +1,7 @@
 ghost use Rattle.std.specs.Prelude.{◌≡◌, ◌≤◌, length, nat_le, replicate};
 ghost use Rattle.door.specs.Arms.{fresh};
 ghost use Rattle.door.specs.Limits.{arm_limit};
-ghost use Rattle.door.specs.Making.{arms_for, IsLargest, cleared};
+ghost use Rattle.door.specs.Making.{arms_for, IsLargest, cleared, cleared_memory};
 ghost use Rattle.door.specs.States.{made};
 
 use crate::gate::Gate;
@@ -40,12 +40,12 @@ fn arm_count<B: Bank, D: Door>(bank: &B, wanted: usize) -> usize
     n
 }
 
-// Writes to registers 0 to count - 1 what they hold at first.
+// Writes to each of the registers 0 to count - 1 once what it holds at first.
 fn clear<B: Bank, D: Door>(bank: &mut B, count: usize)
     requires count { count ≤ length (B.values bank.old) }
     requires high { D.table.needed ≤ B.HIGHEST }
     ensures after { B.values bank.new ≡ cleared D.table count (B.values bank.old) }
-    ensures lent { B.memory bank.new ≡ B.memory bank.old }
+    ensures lent { B.memory bank.new ≡ cleared_memory D.table count (B.memory bank.old) }
 {
     for i in 0..count {
         let _ = bank.write(i, D::first(i));
@@ -88,7 +88,7 @@ impl<B: Bank, D: Door> Gate<B, D> {
         }
     }
 
-    /// Ends the gate and hands its bank back, as it stands: it is over the memory that the gate's bank was made over.
+    /// Ends the gate and hands its bank back, as it stands, with nothing more written to it.
     pub fn into_bank(self) -> B
         ensures values { B.values result ≡ self.regs }
         ensures lent { B.memory result ≡ self.memory }

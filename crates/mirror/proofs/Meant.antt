@@ -2,6 +2,7 @@
 use Rattle.std.proofs.Common.{◌≡◌, ℕ, ◌≤◌, Bool, false, T, eqb, ◌≢◌, List, Option, sym, refl, ap, ◌∙◌, subst, ⊎_elim, arith}
 use Rattle.std.proofs.lemmas.Bool.Decides.{nat_tests}
 use Rattle.std.proofs.lemmas.Bool.{cases_eq, cond-false, ne_eqb}
+use Rattle.bank.specs.Lent.{Lent}
 use Rattle.door.specs.Registers.{group}
 use Rattle.door.specs.Table.{Table}
 use Rattle.door.specs.Arms.{side_of}
@@ -92,7 +93,7 @@ module _ {At : Type 0} {door : Table At} (plan : Plan door) where
     exit = ap door.phase (sym (plan.at_exit false)) ∙ plan.phased (x1 false);
   }
 
-  module _ (memory high number wanted : ℕ) (regs : List ℕ) (past : List Call) where
+  module _ (memory : Lent) (high number wanted : ℕ) (regs : List ℕ) (past : List Call) where
     abbrev start : State At
     start = made door memory high number wanted regs
 

@@ -2,6 +2,7 @@
 use Rattle.std.proofs.Common.{◌≡◌, ℕ, ◌-◌, ◌<◌, ◌≤◌, Bool, true, false, T, ◌≢◌, List, length, get_or, set, Some, sym, refl, ap, ◌∙◌, subst, ⊎_elim, arith}
 use Rattle.std.proofs.lemmas.Bool.{cases_eq}
 use Rattle.std.proofs.lemmas.List.{length-set, get_or-set_same, get_or-set_other}
+use Rattle.bank.specs.Lent.{Lent}
 use Rattle.door.specs.Registers.{group, value_read, regs_after}
 use Rattle.door.specs.Table.{Table}
 use Rattle.door.specs.Arms.{no_arm, side_of, side_after}
@@ -87,10 +88,10 @@ module _ {At : Type 0} {door : Table At} {plan : Plan door} where
         (cases_eq k i);
   }
 
-  -- the rows and the turns show nothing of the machine
-  pub tallied_mirror : (s : State At) (regs : List ℕ) (k : ℕ) (p q : Phase) (arms : List (Arm At)) (turns : ℕ) (g : Machine) → Mirror plan (record s { regs = regs; arms = arms }) g
-      → Mirror plan (record s { regs = regs; arms = tallied door k p q arms; turns = turns }) g
-  tallied_mirror s regs k p q arms turns g mir =
+  -- the memory, the rows and the turns show nothing of the machine
+  pub tallied_mirror : (s : State At) (memory : Lent) (regs : List ℕ) (k : ℕ) (p q : Phase) (arms : List (Arm At)) (turns : ℕ) (g : Machine) → Mirror plan (record s { regs = regs; arms = arms }) g
+      → Mirror plan (record s { memory = memory; regs = regs; arms = tallied door k p q arms; turns = turns }) g
+  tallied_mirror s memory regs k p q arms turns g mir =
       let same_as = tallied_table door k p q arms in
       record {
         size = mir.size;

@@ -5,6 +5,7 @@ use Rattle.std.proofs.lemmas.Bool.{cond-false, ne_eqb}
 use Rattle.std.proofs.lemmas.List.{get_or-replicate, get_or_append_left, length-replicate}
 use Rattle.std.proofs.lemmas.List.FromFn.{get_or-map-range_with_len, length-map-range_with_len}
 use Rattle.std.specs.List.{range_with_len}
+use Rattle.bank.specs.Lent.{Lent}
 use Rattle.door.specs.Limits.{arm_limit}
 use Rattle.door.specs.Registers.{group}
 use Rattle.door.specs.Phases.{same_phase}
@@ -55,7 +56,7 @@ module _ {At : Type 0} {door : Table At} {plan : Plan door} where
         let r = known_arm s i (step_refusal (phase_at door s i)) e in
         let k : T (may_step (g.arms i)) = subst (λ p. T (not (same_phase p P.I) && not (same_phase p P.F))) (phase_is s g mir i r.0 r.1) (step_none (phase_at door s i) (for_arm_none (is_arm s i) _ e)) in
         goes step i r.0 (let z = mir.size in let y = r.1 in omega arith) k
-        (tallied_mirror s _ (i - 1) (phase_at door s i) (door.phase (arm_after door s i).position) _ _ (moved g step i) (step_mirror s g mir i r.0 r.1 (inv.own i) k)) (λ b. refl) (λ b. refl) refl
+        (tallied_mirror s _ _ (i - 1) (phase_at door s i) (door.phase (arm_after door s i).position) _ _ (moved g step i) (step_mirror s g mir i r.0 r.1 (inv.own i) k)) (λ b. refl) (λ b. refl) refl
 
     pub came : (c : Call) → Called plan g s c
     came (Begin i) = by_refusal (Begin i) (λ e.
@@ -117,7 +118,7 @@ first δ n = record { kind = δ; n = n; group = false; arms = λ k. idle false }
 pub first_inv : (δ : Kind) (n : ℕ) → Inv (first δ n)
 first_inv δ n = record { home = λ k. tt; awake = λ k h. absurd h; range = λ k t h. absurd h; own = λ k. tt }
 
-module _ {At : Type 0} {door : Table At} (plan : Plan door) (memory high number wanted : ℕ) (regs : List ℕ) where
+module _ {At : Type 0} {door : Table At} (plan : Plan door) (memory : Lent) (high number wanted : ℕ) (regs : List ℕ) where
   abbrev start : State At
   start = made door memory high number wanted regs
 

@@ -1,5 +1,6 @@
 -- Right of way and going inside, of any door with a plan.
 use Rattle.std.proofs.Common.{◌≡◌, ℕ, ◌+◌, ◌*◌, ◌≤◌, Bool, not, T, ◌↔◌, ◌⊎◌, inl, List, sym, ap, ◌∙◌, subst, inr, ⊎_elim, arith}
+use Rattle.bank.specs.Lent.{Lent}
 use Rattle.door.specs.Table.{Table}
 use Rattle.door.specs.States.{State, made, is_arm}
 use Rattle.door.specs.Calls.{run, has_way}
@@ -21,7 +22,7 @@ use Rattle.mirror.proofs.Rounds.{all_go_inside}
 bit_once : (x y : Bool) → bit x ≡ bit y → T (same x y)
 bit_once x y e = grind arith
 
-module _ {At : Type 0} {door : Table At} (plan : Plan door) (memory high number wanted : ℕ) (regs : List ℕ) (past : List Call) where
+module _ {At : Type 0} {door : Table At} (plan : Plan door) (memory : Lent) (high number wanted : ℕ) (regs : List ℕ) (past : List Call) where
   abbrev start : State At
   start = made door memory high number wanted regs
 

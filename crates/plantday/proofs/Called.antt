@@ -1,5 +1,6 @@
 -- Lists of calls that lead from one state to another.
 use Rattle.std.proofs.Common.{◌≡◌, ℕ, List, [], ◌∷◌, ◌++◌, sym, ap, ◌∙◌, subst}
+use Rattle.bank.specs.Lent.{Lent}
 use Rattle.door.specs.Calls.{after, run}
 use Rattle.door.specs.Law.{Fair, ShowsWay}
 use Rattle.door.specs.Rules.{Phased, ShowsRules, ShowsBits}
@@ -9,7 +10,7 @@ use Rattle.door.specs.Turns.{TurnsTold}
 use Rattle.door.specs.declared.call.Call.{Call}
 use Rattle.door.proofs.Fairness.{fair}
 use Rattle.door.proofs.Origins.{run_append}
-use Rattle.door.proofs.Runs.{run_n, run_memory}
+use Rattle.door.proofs.Runs.{run_n, memory_name}
 use Rattle.door.proofs.Turns.{turns_told}
 use Rattle.plantday.specs.Day.{Called, FairDay}
 
@@ -21,7 +22,7 @@ module _ {At : Type 0} (door : Table At) where
   joined {s} {t} {u} a b = (a.0 ++ b.0, b.1 ∙ ap (λ x. run door x b.0) a.1 ∙ sym (run_append door a.0 b.0 s))
 
   -- a gate on which only calls were made is fair, and its turns are those of the calls
-  pub fair_after : Phased door → ShowsRules door → ShowsBits door → ShowsWay door → (memory high number wanted : ℕ) (regs : List ℕ) {t : State At}
+  pub fair_after : Phased door → ShowsRules door → ShowsBits door → ShowsWay door → (memory : Lent) (high number wanted : ℕ) (regs : List ℕ) {t : State At}
       → Called door (made door memory high number wanted regs) t → FairDay door (made door memory high number wanted regs) t
   fair_after phased rules bits way memory high number wanted regs {t} a =
       let start = made door memory high number wanted regs in
@@ -31,6 +32,6 @@ module _ {At : Type 0} (door : Table At) where
   pub n_stays : {s t : State At} → Called door s t → t.n ≡ s.n
   n_stays {s} a = ap (λ x. x.n) a.1 ∙ run_n door a.0 s
 
-  -- and which memory the bank writes
-  pub memory_stays : {s t : State At} → Called door s t → t.memory ≡ s.memory
-  memory_stays {s} a = ap (λ x. x.memory) a.1 ∙ run_memory door a.0 s
+  -- and the bank over the memory that it was made over
+  pub name_stays : (memory : Lent) (high number wanted : ℕ) (regs : List ℕ) {t : State At} → Called door (made door memory high number wanted regs) t → t.memory.name ≡ memory.name
+  name_stays memory high number wanted regs a = ap (λ x. x.memory.name) a.1 ∙ memory_name door memory high number wanted regs a.0

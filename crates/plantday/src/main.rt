@@ -4,6 +4,7 @@
 #![tactic(auto)]
 
 ghost use Rattle.std.specs.Prelude.{◌≡◌, ℕ, ◌+◌, ◌<◌, length, replicate, None};
+ghost use Rattle.bank.specs.Lent.{unlogged};
 ghost use Rattle.door.specs.Calls.{refusal_of};
 ghost use Rattle.door.specs.Making.{arms_for};
 ghost use Rattle.door.specs.States.{made};
@@ -117,7 +118,7 @@ fn whole_day<B: Bank, D: Door>(bank: B, record: &mut Record) -> Gate<B, D>
     requires { arms_for D.table B.HIGHEST (length (B.values bank)) plant_arms ≡ plant_arms }
     ensures fair { FairDay D.table (made D.table (B.memory bank) B.HIGHEST 7 plant_arms (B.values bank)) result }
     ensures turns { «record».new.turns ≡ result.turns }
-    ensures lent { result.memory ≡ B.memory bank }
+    ensures lent { result.memory.name ≡ (B.memory bank).name }
 {
     let mut gate = Gate::<B, D>::make(bank, NUMBER, ARMS);
     let mut dice = Dice::new(SEED);
@@ -137,7 +138,7 @@ fn day_over<'a, D: Door>(
 ) -> &'a mut [u8]
     requires { arms_for D.table 255 (length memory.old) plant_arms ≡ plant_arms }
     ensures lent { result.ghost_name ≡ memory.entry.ghost_name }
-    ensures registers { HoldsFairDay D.table (made D.table memory.entry.ghost_name 255 7 plant_arms memory.old) result.now «record».new.turns }
+    ensures registers { HoldsFairDay D.table (made D.table (unlogged memory.entry.ghost_name) 255 7 plant_arms memory.old) result.now «record».new.turns }
 {
     let gate = whole_day::<_, D>(ByteBank::new(memory), record);
     gate.into_bank().into_memory()
@@ -146,7 +147,7 @@ fn day_over<'a, D: Door>(
 // Lends memory for a day: afterwards it holds the gate's registers.
 fn lend<D: Door>(memory: &mut [u8], record: &mut Record, _kind: Kind<'static, D>)
     requires { arms_for D.table 255 (length memory.old) plant_arms ≡ plant_arms }
-    ensures { (name : ℕ) × HoldsFairDay D.table (made D.table name 255 7 plant_arms memory.old) memory.new «record».new.turns }
+    ensures { (name : ℕ) × HoldsFairDay D.table (made D.table (unlogged name) 255 7 plant_arms memory.old) memory.new «record».new.turns }
 {
     let _ = day_over::<D>(memory, record, PhantomData);
 }
@@ -157,7 +158,7 @@ fn memory_after_day<D: Door, const COUNT: usize>(
     kind: Kind<'static, D>,
 ) -> [u8; COUNT]
     requires { arms_for D.table 255 COUNT plant_arms ≡ plant_arms }
-    ensures { (memory : ℕ) × HoldsFairDay D.table (made D.table memory 255 7 plant_arms (replicate COUNT 0)) result «record».new.turns }
+    ensures { (memory : ℕ) × HoldsFairDay D.table (made D.table (unlogged memory) 255 7 plant_arms (replicate COUNT 0)) result «record».new.turns }
 {
     let mut memory = [0; COUNT];
     lend(&mut memory, record, kind);

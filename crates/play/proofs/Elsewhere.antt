@@ -1,5 +1,6 @@
 -- A play over another bank that gives the file as many arms comes to the same.
 use Rattle.std.proofs.Common.{◌≡◌, ℕ, ◌+◌, if◌then◌else◌, is_some, List, [], ◌∷◌, ◌++◌, length, Ok, Err, Result, sym, refl, ap, ◌∙◌, subst}
+use Rattle.bank.specs.Lent.{Lent}
 use Rattle.door.specs.Accesses.{ShowsAccesses}
 use Rattle.door.specs.Calls.{refusal_of, after, unless}
 use Rattle.door.specs.Making.{arms_for}
@@ -58,7 +59,7 @@ module _ {At : Type 0} (door : Table At) (shown : ShowsAccesses door) where
       let first : first_line t orders refused ≡ first_line s orders refused = cc in
       λ i. first i ++ lines (arm_line door (record s { n = n i; arms = arms i })) (n i)
 
-  play_text_same : ShowsBits door → (lent high : ℕ) (regs : List ℕ) (lent' high' : ℕ) (regs' : List ℕ) (c : Contents)
+  play_text_same : ShowsBits door → (lent : Lent) (high : ℕ) (regs : List ℕ) (lent' : Lent) (high' : ℕ) (regs' : List ℕ) (c : Contents)
       → arms_for door high' (length regs') c.arms ≡ arms_for door high (length regs) c.arms
       → play_text door lent' high' regs' c ≡ play_text door lent high regs c
   play_text_same bits lent high regs lent' high' regs' c e =
@@ -68,7 +69,7 @@ module _ {At : Type 0} (door : Table At) (shown : ShowsAccesses door) where
       ap (report_text door (end door lent' high' regs' c) (length c.orders)) (count_same s t c.orders made_so)
       ∙ text_same bits (end door lent high regs c) (end door lent' high' regs' c) (length c.orders) (refusals door s c.orders) (all_twins s t c.orders made_so)
 
-  same_play : ShowsBits door → (lent high : ℕ) (regs : List ℕ) (lent' high' : ℕ) (regs' : List ℕ) (said : Result Contents PlayFault) (memory : List ℕ)
+  same_play : ShowsBits door → (lent : Lent) (high : ℕ) (regs : List ℕ) (lent' : Lent) (high' : ℕ) (regs' : List ℕ) (said : Result Contents PlayFault) (memory : List ℕ)
       → GivesAsMany door high regs high' regs' said
       → IsSamePlay door lent high regs lent' high' regs' said memory (play_answer door lent high regs said) (play_memory door lent high regs memory said)
   same_play bits lent high regs lent' high' regs' (Ok c) memory e =
@@ -81,7 +82,7 @@ module _ {At : Type 0} (door : Table At) (shown : ShowsAccesses door) where
   same_play bits lent high regs lent' high' regs' (Err fault) memory e = record { answer = refl; report = refl; refusals = refl }
 
   -- of what a play answered and left
-  pub same_elsewhere : ShowsBits door → (lent high : ℕ) (regs file memory : List ℕ) (answer_is : Result ℕ PlayFault) (memory_is : List ℕ)
+  pub same_elsewhere : ShowsBits door → (lent : Lent) (high : ℕ) (regs file memory : List ℕ) (answer_is : Result ℕ PlayFault) (memory_is : List ℕ)
       → answer_is ≡ play_answer door lent high regs (playable file (length memory))
       → memory_is ≡ play_memory door lent high regs memory (playable file (length memory))
       → SameElsewhere door lent high regs file memory answer_is memory_is

@@ -6,9 +6,9 @@ use Rattle.schedule.specs.declared.order_number.Order.{Order}
 use Rattle.play.specs.Playing.{obeyed, obeyed_all}
 
 module _ {At : Type 0} (door : Table At) where
-  obeyed_lent : (s : State At) (o : Order) → (obeyed door s o).memory ≡ s.memory
-  obeyed_lent s o = grind arith
+  obeyed_name : (s : State At) (o : Order) → (obeyed door s o).memory.name ≡ s.memory.name
+  obeyed_name s o = grind arith
 
-  pub obeyed_all_lent : (s : State At) (os : List Order) → (obeyed_all door s os).memory ≡ s.memory
-  obeyed_all_lent s [] = refl
-  obeyed_all_lent s (o ∷ os) = obeyed_all_lent (obeyed door s o) os ∙ obeyed_lent s o
+  pub obeyed_all_name : (s : State At) (os : List Order) → (obeyed_all door s os).memory.name ≡ s.memory.name
+  obeyed_all_name s [] = refl
+  obeyed_all_name s (o ∷ os) = obeyed_all_name (obeyed door s o) os ∙ obeyed_name s o

@@ -1,5 +1,6 @@
 -- What playing a file comes to.
 use Rattle.std.specs.Prelude.{◌≡◌, ℕ, ◌+◌, ◌≤◌, IfOk, List, [], ◌∷◌, length, Ok, Err, Option, Result, is_some, if◌then◌else◌, nat_le}
+use Rattle.bank.specs.Lent.{Lent}
 use Rattle.door.specs.Calls.{refusal_of, after, unless}
 use Rattle.door.specs.Making.{arms_for}
 use Rattle.door.specs.Table.{Table}
@@ -53,35 +54,42 @@ module _ {At : Type 0} (door : Table At) where
   each_refusal s (o ∷ os) = order_refusal s o ∷ each_refusal (obeyed s o) os
 
   -- gate 0 over a bank, made for a file and after its orders
-  abbrev pub start : ℕ → ℕ → List ℕ → Contents → State At
+  abbrev pub start : Lent → ℕ → List ℕ → Contents → State At
   start lent high regs c = made door lent high 0 c.arms regs
 
-  abbrev pub end : ℕ → ℕ → List ℕ → Contents → State At
+  abbrev pub end : Lent → ℕ → List ℕ → Contents → State At
   end lent high regs c = obeyed_all (start lent high regs c) c.orders
 
-  abbrev pub play_text : ℕ → ℕ → List ℕ → Contents → List ℕ
+  abbrev pub play_text : Lent → ℕ → List ℕ → Contents → List ℕ
   play_text lent high regs c = report_text door (end lent high regs c) (length c.orders) (refusals (start lent high regs c) c.orders)
 
   -- what play answers, and what the bank and the report memory then hold
-  abbrev pub play_answer : ℕ → ℕ → List ℕ → Result Contents PlayFault → Result ℕ PlayFault
+  abbrev pub play_answer : Lent → ℕ → List ℕ → Result Contents PlayFault → Result ℕ PlayFault
   play_answer lent high regs (Ok c) = Ok (length (play_text lent high regs c))
   play_answer lent high regs (Err fault) = Err fault
 
-  abbrev pub play_regs : ℕ → ℕ → List ℕ → Result Contents PlayFault → List ℕ
+  abbrev pub play_regs : Lent → ℕ → List ℕ → Result Contents PlayFault → List ℕ
   play_regs lent high regs (Ok c) = (end lent high regs c).regs
   play_regs lent high regs (Err fault) = regs
 
-  abbrev pub play_memory : ℕ → ℕ → List ℕ → List ℕ → Result Contents PlayFault → List ℕ
+  -- and the memory that the bank writes, with the log of its writes
+  abbrev pub play_lent : Lent → ℕ → List ℕ → Result Contents PlayFault → Lent
+  play_lent lent high regs (Ok c) = (end lent high regs c).memory
+  play_lent lent high regs (Err fault) = lent
+
+  abbrev pub play_memory : Lent → ℕ → List ℕ → List ℕ → Result Contents PlayFault → List ℕ
   play_memory lent high regs memory (Ok c) = overwritten memory (play_text lent high regs c)
   play_memory lent high regs memory (Err fault) = memory
 
-  -- what a play comes to, over a bank (which borrowed memory it writes, its highest value, its registers) and with report memory:
+  -- what a play comes to, over a bank (the memory that it writes, its highest value, its registers) and with report memory:
   -- what it answers, and what both then are
-  pub record IsPlayed (lent high : ℕ) (regs file memory : List ℕ) (answer_is : Result ℕ PlayFault) (lent_is : ℕ) (regs_are memory_is : List ℕ) : Type 0 where
+  pub record IsPlayed (lent : Lent) (high : ℕ) (regs file memory : List ℕ) (answer_is : Result ℕ PlayFault) (lent_is : Lent) (regs_are memory_is : List ℕ) : Type 0 where
     -- the length of the report, or the fault
     pub answer : answer_is ≡ play_answer lent high regs (playable file (length memory))
     -- the bank is over the memory that it was over
-    pub same_bank : lent_is ≡ lent
+    pub same_bank : lent_is.name ≡ lent.name
+    -- what was written to it is what the making and the orders write, or nothing
+    pub written : lent_is ≡ play_lent lent high regs (playable file (length memory))
     -- the registers after the orders, or as they were
     pub registers : regs_are ≡ play_regs lent high regs (playable file (length memory))
     -- the report at the start of the memory, or the memory as it was
@@ -90,7 +98,7 @@ module _ {At : Type 0} (door : Table At) where
     pub fits : IfOk answer_is (λ n. n ≤ report_room)
 
   -- why the gate of a play refused each order of the file
-  abbrev pub play_refusals : ℕ → ℕ → List ℕ → Result Contents PlayFault → List (Option Refusal)
+  abbrev pub play_refusals : Lent → ℕ → List ℕ → Result Contents PlayFault → List (Option Refusal)
   play_refusals lent high regs (Ok c) = each_refusal (start lent high regs c) c.orders
   play_refusals lent high regs (Err fault) = []
 
@@ -101,15 +109,15 @@ module _ {At : Type 0} (door : Table At) where
 
   -- a play over a bank and one over another come to the same: the answer and the report memory of the one are those of the other,
   -- and each order is refused for the same reason
-  pub record IsSamePlay (lent high : ℕ) (regs : List ℕ) (lent' high' : ℕ) (regs' : List ℕ) (said : Result Contents PlayFault) (memory : List ℕ) (answer_is : Result ℕ PlayFault) (memory_is : List ℕ) : Type 0 where
+  pub record IsSamePlay (lent : Lent) (high : ℕ) (regs : List ℕ) (lent' : Lent) (high' : ℕ) (regs' : List ℕ) (said : Result Contents PlayFault) (memory : List ℕ) (answer_is : Result ℕ PlayFault) (memory_is : List ℕ) : Type 0 where
     pub answer : answer_is ≡ play_answer lent' high' regs' said
     pub report : memory_is ≡ play_memory lent' high' regs' memory said
     pub refusals : play_refusals lent' high' regs' said ≡ play_refusals lent high regs said
 
   -- so it is with every other bank that gives the file as many arms, whatever it holds: a play depends on nothing else of the bank
-  abbrev pub SameElsewhere : (lent high : ℕ) (regs file memory : List ℕ) → Result ℕ PlayFault → List ℕ → Type 0
+  abbrev pub SameElsewhere : (lent : Lent) (high : ℕ) (regs file memory : List ℕ) → Result ℕ PlayFault → List ℕ → Type 0
   SameElsewhere lent high regs file memory answer_is memory_is =
-      (lent' high' : ℕ) (regs' : List ℕ) → GivesAsMany high regs high' regs' (playable file (length memory))
+      (lent' : Lent) (high' : ℕ) (regs' : List ℕ) → GivesAsMany high regs high' regs' (playable file (length memory))
       → IsSamePlay lent high regs lent' high' regs' (playable file (length memory)) memory answer_is memory_is
 
   -- a gate in hand after the orders of a file

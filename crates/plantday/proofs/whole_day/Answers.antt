@@ -1,7 +1,7 @@
 use Rattle.std.proofs.Common.{rules, sym, subst, ap, ◌∙◌, arith}
 use Rattle.std.proofs.lemmas.Bool.Decides.{nat_tests}
 use Rattle.plantday.specs.Day.{Called}
-use Rattle.plantday.proofs.Called.{joined, fair_after, n_stays, memory_stays}
+use Rattle.plantday.proofs.Called.{joined, fair_after, n_stays, name_stays}
 use Rattle.plantday.proofs.Noted.{looked}
 use Rattle.plantday.proofs.whole_day.Goals as goal
 
@@ -24,8 +24,9 @@ returns g c =
     let bank = g.B.Bank in
     let door = g.D.Door.table in
     let met = g.met.D.Door in
+    let called = subst (λ s. Called door s c.loop-t.gate) c.make-gate.ensures.made c.loop-t.invariant in
     record {
-      fair = fair_after door met.phased met.rules met.bits met.way (bank.memory c.args.bank) bank.HIGHEST 7 6 (bank.values c.args.bank) (subst (λ s. Called door s c.loop-t.gate) c.make-gate.ensures.made c.loop-t.invariant);
+      fair = fair_after door met.phased met.rules met.bits met.way (bank.memory c.args.bank) bank.HIGHEST 7 6 (bank.values c.args.bank) called;
       turns = looked door c.loop-t.gate 1 c.unwrap.result (sym c.look.ensures.answer ∙ c.unwrap.ensures);
-      lent = memory_stays door c.loop-t.invariant ∙ ap (λ s. s.memory) c.make-gate.ensures.made;
+      lent = name_stays door (bank.memory c.args.bank) bank.HIGHEST 7 6 (bank.values c.args.bank) called;
     }

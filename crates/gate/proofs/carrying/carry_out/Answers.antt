@@ -6,7 +6,7 @@ use Rattle.door.specs.States.{made}
 use Rattle.door.specs.Turns.{TurnsTold}
 use Rattle.door.specs.declared.call.Call.TheVariants.{Begin}
 use Rattle.door.proofs.Origins.{run_more}
-use Rattle.door.proofs.Runs.{run_memory}
+use Rattle.door.proofs.Runs.{memory_name}
 use Rattle.door.proofs.Fairness.{fair, passing}
 use Rattle.door.proofs.Turns.{turns_told}
 use Rattle.gate.proofs.carrying.carry_out.Goals as goal
@@ -29,7 +29,7 @@ returns g c =
     c.loop-call.invariant ∙ (ap (run door _) (take_all c.loop-call.call-index c.args.calls.now c.loop-call-test.false) ∙ ap (λ s. run door s c.args.calls.now) c.make-gate.ensures.made) in
     record {
       state = e;
-      lent = ap (λ s. s.memory) e ∙ run_memory door c.args.calls.now start;
+      lent = ap (λ s. s.memory.name) e ∙ memory_name door (bank.memory c.args.bank) bank.HIGHEST c.args.number c.args.wanted (bank.values c.args.bank) c.args.calls.now;
       law = subst (Fair door start c.args.calls.now) (sym e) (fair door met.phased met.rules met.way (bank.memory c.args.bank) bank.HIGHEST c.args.number c.args.wanted (bank.values c.args.bank) c.args.calls.now);
       rules = met.rules;
       bound = passing door met.phased met.rules;

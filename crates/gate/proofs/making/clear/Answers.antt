@@ -1,6 +1,7 @@
 use Rattle.std.proofs.Common.{◌<◌, ◌≤◌, length, ap, ◌∙◌, arith}
+use Rattle.bank.specs.Lent.{touched}
 use Rattle.bank.specs.Registers.{written}
-use Rattle.door.proofs.Rooms.{cleared_more}
+use Rattle.door.proofs.Rooms.{cleared_more, cleared_memory_more}
 use Rattle.gate.proofs.making.clear.Goals as goal
 
 pub loop-i-preserved : goal.loop-i-preserved
@@ -14,5 +15,8 @@ loop-i-preserved g c =
           ∙ ap (λ v. written high (g.B.Bank.values c.loop-i.bank) c.loop-i.i v) c.first.ensures.is
           ∙ ap (λ xs. written high xs c.loop-i.i (door.first c.loop-i.i)) c.loop-i.invariant.0
           ∙ cleared_more door high c.loop-i.i regs h fits,
-      c.write.ensures.lent ∙ c.loop-i.invariant.1,
+      c.write.ensures.lent
+          ∙ ap (touched (g.B.Bank.memory c.loop-i.bank) c.loop-i.i) c.first.ensures.is
+          ∙ ap (λ memory. touched memory c.loop-i.i (door.first c.loop-i.i)) c.loop-i.invariant.1
+          ∙ cleared_memory_more door c.loop-i.i (g.B.Bank.memory c.args.bank.now),
     )

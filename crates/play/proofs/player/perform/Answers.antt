@@ -1,12 +1,13 @@
-use Rattle.std.proofs.Common.{◌≡◌, ℕ, ◌≤◌, List, length, Ok, sym, ap, ◌∙◌, arith, rules}
+use Rattle.std.proofs.Common.{◌≡◌, ℕ, ◌≤◌, List, [], length, Ok, sym, ap, ◌∙◌, arith, rules}
 use Rattle.std.proofs.lemmas.Bool.Decides.{nat_tests}
+use Rattle.door.proofs.Runs.{memory_name}
 use Rattle.door.specs.States.{made}
 use Rattle.schedule.specs.Reading.{Contents}
 use Rattle.play.specs.Limits.{report_room}
-use Rattle.play.specs.Playing.{playable, start, end, obeyed_all, refusals, play_text, play_answer, play_regs, play_memory}
+use Rattle.play.specs.Playing.{playable, start, end, obeyed_all, refusals, play_text, play_answer, play_regs, play_lent, play_memory}
 use Rattle.play.specs.Reports.{report_text}
 use Rattle.play.specs.Text.{overwritten}
-use Rattle.play.proofs.Lent.{obeyed_all_lent}
+use Rattle.play.proofs.Lent.{obeyed_all_name}
 use Rattle.play.proofs.player.perform.Goals as goal
 
 -- a file that can be played leaves room for a report
@@ -35,7 +36,8 @@ returns g c =
     λ i. report_text door (last i) (orders i) (refused i) in
     record {
       answer = ap Ok (c.put_report-length.ensures.answer ∙ ap length text) ∙ sym (ap (play_answer door lent high regs) playable);
-      same_bank = c.into_bank.ensures.lent ∙ (ap (λ s. s.memory) last ∙ obeyed_all_lent door (start door lent high regs said) said.orders);
+      same_bank = ap (λ m. m.name) (c.into_bank.ensures.lent ∙ ap (λ s. s.memory) last) ∙ (obeyed_all_name door (start door lent high regs said) said.orders ∙ memory_name door lent high 0 said.arms regs []);
+      written = c.into_bank.ensures.lent ∙ (ap (λ s. s.memory) last ∙ sym (ap (play_lent door lent high regs) playable));
       registers = c.into_bank.ensures.values ∙ (ap (λ s. s.regs) last ∙ sym (ap (play_regs door lent high regs) playable));
       report = c.put_report-length.ensures.after ∙ (ap (overwritten memory) text ∙ sym (ap (play_memory door lent high regs memory) playable));
       fits = c.put_report-length.ensures.fits;

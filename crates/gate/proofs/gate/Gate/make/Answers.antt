@@ -1,9 +1,10 @@
 use Rattle.std.proofs.Common.{◌≡◌, ℕ, ◌<◌, ◌≤◌, List, length, replicate, sym, ap, ◌∙◌, subst, arith, rules}
 use Rattle.std.proofs.lemmas.Bool.Decides.{nat_tests}
 use Rattle.door.proofs.Origins.{reached_made}
+use Rattle.bank.specs.Lent.{Lent}
 use Rattle.door.specs.Arms.{fresh}
 use Rattle.door.specs.Limits.{arm_limit}
-use Rattle.door.specs.Making.{arms_for, cleared, made_regs}
+use Rattle.door.specs.Making.{arms_for, cleared, made_regs, cleared_memory, made_memory}
 use Rattle.door.specs.States.{made}
 use Rattle.door.specs.Table.{Table}
 use Rattle.door.specs.declared.arm.Arm.{Arm}
@@ -27,33 +28,35 @@ clear-requires g c =
     }
 
 -- a gate put together from what its parts are
-made_of : {At : Type 0} (door : Table At) (memory high number wanted n lent : ℕ) (regs new : List ℕ) (arms : List (Arm At))
-    → n ≡ arms_for door high (length regs) wanted → lent ≡ memory → new ≡ made_regs door n regs → arms ≡ replicate arm_limit (fresh door)
+made_of : {At : Type 0} (door : Table At) (memory lent : Lent) (high number wanted n : ℕ) (regs new : List ℕ) (arms : List (Arm At))
+    → n ≡ arms_for door high (length regs) wanted → lent ≡ made_memory door n memory → new ≡ made_regs door n regs → arms ≡ replicate arm_limit (fresh door)
     → record { memory = lent; high = high; number = number; n = n; regs = new; arms = arms; turns = 0 } ≡ made door memory high number wanted regs
-made_of door memory high number wanted n lent regs new arms en el er ea =
-    λ i. record { memory = el i; high = high; number = number; n = en i; regs = (er ∙ ap (λ k. made_regs door k regs) en) i; arms = ea i; turns = 0 }
+made_of door memory lent high number wanted n regs new arms en el er ea =
+    λ i. record { memory = (el ∙ ap (λ k. made_memory door k memory) en) i; high = high; number = number; n = en i; regs = (er ∙ ap (λ k. made_regs door k regs) en) i; arms = ea i; turns = 0 }
 
-some_made : {At : Type 0} (door : Table At) (n : ℕ) (regs : List ℕ) → 0 < n → cleared door (door.room n) regs ≡ made_regs door n regs
-some_made door n regs h = grind (arith, nat_tests)
+some_made : {At : Type 0} (door : Table At) (n : ℕ) (memory : Lent) (regs : List ℕ) → 0 < n
+    → (cleared door (door.room n) regs ≡ made_regs door n regs) × (cleared_memory door (door.room n) memory ≡ made_memory door n memory)
+some_made door n memory regs h = (grind (arith, nat_tests), grind (arith, nat_tests))
 
-none_made : {At : Type 0} (door : Table At) (n : ℕ) (regs : List ℕ) → n ≤ 0 → regs ≡ made_regs door n regs
-none_made door n regs h = grind (arith, nat_tests)
+none_made : {At : Type 0} (door : Table At) (n : ℕ) (memory : Lent) (regs : List ℕ) → n ≤ 0 → (regs ≡ made_regs door n regs) × (memory ≡ made_memory door n memory)
+none_made door n memory regs h = (grind (arith, nat_tests), grind (arith, nat_tests))
 
 pub returns-clause-made : goal.returns-clause-made
 returns-clause-made g c =
     let door = g.D.Door.table in
     let bank = g.B.Bank in
     let regs = bank.values c.args.bank in
+    let memory = bank.memory c.args.bank in
     let n = c.arm_count-n.result in
-    let written : (bank.values c.if-n-gt0.bank ≡ made_regs door n regs) × (bank.memory c.if-n-gt0.bank ≡ bank.memory c.args.bank) =
+    let written : (bank.values c.if-n-gt0.bank ≡ made_regs door n regs) × (bank.memory c.if-n-gt0.bank ≡ made_memory door n memory) =
     elim c.if-n-gt0.branch [
       | then-n-gt0 w ↦ (
-        ap bank.values w.bank-is ∙ (w.clear.ensures.after ∙ (ap (λ k. cleared door k regs) w.registers.ensures.is ∙ some_made door n regs w.if-n-gt0.true)),
-        ap bank.memory w.bank-is ∙ w.clear.ensures.lent,
+        ap bank.values w.bank-is ∙ (w.clear.ensures.after ∙ (ap (λ k. cleared door k regs) w.registers.ensures.is ∙ (some_made door n memory regs w.if-n-gt0.true).0)),
+        ap bank.memory w.bank-is ∙ (w.clear.ensures.lent ∙ (ap (λ k. cleared_memory door k memory) w.registers.ensures.is ∙ (some_made door n memory regs w.if-n-gt0.true).1)),
       )
-      | else-n-gt0 w ↦ (ap bank.values w.bank-is ∙ none_made door n regs w.if-n-gt0.false, ap bank.memory w.bank-is)
+      | else-n-gt0 w ↦ (ap bank.values w.bank-is ∙ (none_made door n memory regs w.if-n-gt0.false).0, ap bank.memory w.bank-is ∙ (none_made door n memory regs w.if-n-gt0.false).1)
     ] in
-    made_of door (bank.memory c.args.bank) bank.HIGHEST c.args.number c.args.wanted n (bank.memory c.if-n-gt0.bank) regs (bank.values c.if-n-gt0.bank) c.fresh_arms.result
+    made_of door memory (bank.memory c.if-n-gt0.bank) bank.HIGHEST c.args.number c.args.wanted n regs (bank.values c.if-n-gt0.bank) c.fresh_arms.result
     c.arm_count-n.ensures written.1 written.0 c.fresh_arms.ensures
 
 pub invariant_of-result : goal.invariant_of-result

@@ -41,12 +41,10 @@ returns-clause-after g c =
     ∙ subst (λ b. cond {A = ℕ} (same_phase c.args.phase P.X && b) 1 0 ≡ cond b 1 0) (sym (turned ∙ ap (turns_bit s.high s.regs) (access_is ∙ ap (λ a. door.access i (side_of a.side) a.position) is)))
     (exit_turns door met.phased met.rules met.bits s i c.self.invariant.reached may c.args.phase (c.requires.phase ∙ ap door.phase at)) in
     let e = put_together door s i c.make-value.result.value r c.advance-to.new.arm c.args.phase c.advance-to.result c.access-access.result
-    (g.B.Bank.values c.make-value.new.bank) c.make-value.result.turned c.turns.result c.follow.new.arms
+    (g.B.Bank.memory c.make-value.new.bank) (g.B.Bank.values c.make-value.new.bank) c.make-value.result.turned c.turns.result c.follow.new.arms
     is (c.requires.phase ∙ ap door.phase stands)
-    access_is c.make-value.ensures.value c.make-value.ensures.after turned turn c.advance-to.ensures.after c.advance-to.ensures.phase c.follow.ensures.rows in
-    let after : State g.row.D.Denot = record s { regs = g.B.Bank.values c.make-value.new.bank; arms = c.follow.new.arms } in
-    let own = ap (λ m. record after { memory = m; turns = s.turns + c.turns.result }) c.make-value.ensures.lent in
-    own ∙ e ∙ ap (stepped door i) c.self.view_is
+    access_is c.make-value.ensures.value c.make-value.ensures.lent c.make-value.ensures.after turned turn c.advance-to.ensures.after c.advance-to.ensures.phase c.follow.ensures.rows in
+    e ∙ ap (stepped door i) c.self.view_is
 
 pub invariant_of-self : goal.invariant_of-self
 invariant_of-self g c =
