@@ -47,7 +47,7 @@ fn measure(arms: usize, orders: &[Order]) -> Result<usize, WriteRefusal>
         return Err(WriteRefusal::ArmCount);
     }
     let mut size = width(arms as u32);
-    for order in orders {
+    for (i, order) in orders.iter().enumerate() {
         let number = order.number();
         if number > LARGEST_NUMBER {
             return Err(WriteRefusal::Large);
@@ -68,7 +68,7 @@ fn fill(arms: usize, orders: &[Order], out: &mut [u8]) -> usize
     ensures after { out.new ≡ file_bytes arms orders.now ++ drop (length (file_bytes arms orders.now)) out.old }
 {
     let mut at = put(out, 0, arms as u32);
-    for order in orders {
+    for (i, order) in orders.iter().enumerate() {
         at = put(out, at, order.number());
     }
     at
