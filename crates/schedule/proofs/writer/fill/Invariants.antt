@@ -1,4 +1,4 @@
-use Rattle.std.proofs.Common.{◌≡◌, ◌++◌, length, take, drop}
+use Rattle.std.proofs.Common.{◌≡◌, ◌<◌, ◌++◌, length, take, drop}
 use Rattle.schedule.specs.Writing.{file_bytes}
 use Rattle.schedule.proofs.writer.fill.Given as goal
 
@@ -6,5 +6,6 @@ use Rattle.schedule.proofs.writer.fill.Given as goal
 abbrev pub invariant-loop-i : goal.invariant-loop-i
 invariant-loop-i l = record {
   end : l.at ≡ length (file_bytes l.arms (take l.i l.orders));
+  some : l.i < l.at;
   after : l.out ≡ file_bytes l.arms (take l.i l.orders) ++ drop l.at l.fn.out;
 }
