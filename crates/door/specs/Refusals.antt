@@ -1,5 +1,5 @@
--- The numbers of the refusals.
-use Rattle.std.specs.Prelude.{ℕ}
+-- The numbers of the refusals, and the words that they print.
+use Rattle.std.specs.Prelude.{ℕ, codes, List}
 use Rattle.door.specs.declared.refusal.Refusal.{Refusal}
 use Rattle.door.specs.declared.refusal.Refusal.TheVariants.{NoArm, Busy, Idle, Inside, Worn, Elsewhere, Taken, StrangePass}
 
@@ -12,3 +12,13 @@ refusal_number Worn = 5
 refusal_number Elsewhere = 6
 refusal_number Taken = 7
 refusal_number StrangePass = 8
+
+abbrev pub refusal_word : Refusal → List ℕ
+refusal_word NoArm = codes "no arm"
+refusal_word Busy = codes "busy"
+refusal_word Idle = codes "idle"
+refusal_word Inside = codes "inside"
+refusal_word Worn = codes "worn"
+refusal_word Elsewhere = codes "elsewhere"
+refusal_word Taken = codes "taken"
+refusal_word StrangePass = codes "strange pass"

@@ -1,34 +1,27 @@
 ghost use Rattle.std.specs.Prelude.{◌≡◌};
 ghost use Rattle.door.specs.Refusals.{refusal_number};
 
-use thiserror::Error;
+use std::error::Error;
+use std::fmt;
 
 /// Why the gate says no. A refused call alters nothing.
-#[derive(Clone, Copy, Debug, PartialEq, Eq, Error)]
+#[derive(Clone, Copy, Debug, PartialEq, Eq)]
 pub enum Refusal {
     /// The gate has no such arm.
-    #[error("no arm")]
     NoArm,
     /// Begin: the arm is not idle.
-    #[error("busy")]
     Busy,
     /// Step: the arm is idle.
-    #[error("idle")]
     Idle,
     /// Step: the arm is inside.
-    #[error("inside")]
     Inside,
     /// Begin: the idle arm has had its last visit.
-    #[error("worn")]
     Worn,
     /// Admit: the arm is not inside. Way: it does not wait.
-    #[error("elsewhere")]
     Elsewhere,
     /// Admit: the arm's pass is out already.
-    #[error("taken")]
     Taken,
     /// Leave: the gate does not know the pass.
-    #[error("strange pass")]
     StrangePass,
 }
 
@@ -49,3 +42,25 @@ impl Refusal {
         }
     }
 }
+
+impl fmt::Display for Refusal {
+    ghost use Rattle.std.specs.Prelude.{Some};
+    ghost use Rattle.door.specs.Refusals.{refusal_word};
+
+    ghost output = { λ r. Some (refusal_word r) };
+
+    fn fmt<W: fmt::Write>(&self, f: &mut fmt::Formatter<W>) -> fmt::Result {
+        f.write_str(match self {
+            Refusal::NoArm => "no arm",
+            Refusal::Busy => "busy",
+            Refusal::Idle => "idle",
+            Refusal::Inside => "inside",
+            Refusal::Worn => "worn",
+            Refusal::Elsewhere => "elsewhere",
+            Refusal::Taken => "taken",
+            Refusal::StrangePass => "strange pass",
+        })
+    }
+}
+
+impl Error for Refusal {}

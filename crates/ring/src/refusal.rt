@@ -1,13 +1,13 @@
 ghost use Rattle.std.specs.Prelude.{◌≡◌};
 ghost use Rattle.ring.specs.Refusals.{refusal_number};
 
-use thiserror::Error;
+use std::error::Error;
+use std::fmt;
 
 /// Why a ring says no. A refused call changes neither the ring nor its memory.
-#[derive(Clone, Copy, Debug, PartialEq, Eq, Error)]
+#[derive(Clone, Copy, Debug, PartialEq, Eq)]
 pub enum Refusal {
     /// Put: the ring is as full as its memory allows.
-    #[error("ring full")]
     RingFull,
 }
 
@@ -21,3 +21,18 @@ impl Refusal {
         }
     }
 }
+
+impl fmt::Display for Refusal {
+    ghost use Rattle.std.specs.Prelude.{Some};
+    ghost use Rattle.ring.specs.Refusals.{refusal_word};
+
+    ghost output = { λ r. Some (refusal_word r) };
+
+    fn fmt<W: fmt::Write>(&self, f: &mut fmt::Formatter<W>) -> fmt::Result {
+        f.write_str(match self {
+            Refusal::RingFull => "ring full",
+        })
+    }
+}
+
+impl Error for Refusal {}

@@ -7,6 +7,7 @@ use crate::span::Span;
 use std::marker::Model;
 
 /// Items in the order in which they were put in, in memory that is lent to the ring.
+/// An item is copied out of that memory, which goes on holding it: so items are `Copy`.
 #[derive(Drop)]
 pub struct Ring<'a, T> {
     memory: &'a mut [T],

@@ -1,6 +1,8 @@
--- A fault's number, place, order and layer.
-use Rattle.std.specs.Prelude.{ℕ}
+-- A fault's number, word, place, order and layer.
+use Rattle.std.specs.Prelude.{ℕ, codes, List}
+use Rattle.schedule.specs.declared.fault.NumberFault.{NumberFault}
 use Rattle.schedule.specs.declared.fault.NumberFault.TheVariants.{Cut, Padded, Large}
+use Rattle.schedule.specs.declared.fault.ScheduleFault.{ScheduleFault}
 use Rattle.schedule.specs.declared.fault.ScheduleFault.TheVariants.{Number, ArmCount, UnknownOrder}
 use Rattle.schedule.specs.declared.fault.PlayFault.{PlayFault}
 use Rattle.schedule.specs.declared.fault.PlayFault.TheVariants.{LongFile, ShortMemory, Schedule, Full}
@@ -16,6 +18,23 @@ fault_number (Schedule (Number (Large place) order)) = 13
 fault_number (Schedule ArmCount) = 14
 fault_number (Schedule (UnknownOrder place order)) = 15
 fault_number Full = 16
+
+-- the word that a fault prints: a fault that is carried prints its own
+abbrev pub number_fault_word : NumberFault → List ℕ
+number_fault_word (Cut place) = codes "cut"
+number_fault_word (Padded place) = codes "padded"
+number_fault_word (Large place) = codes "large"
+
+abbrev pub schedule_fault_word : ScheduleFault → List ℕ
+schedule_fault_word (Number fault order) = number_fault_word fault
+schedule_fault_word ArmCount = codes "arm count"
+schedule_fault_word (UnknownOrder place order) = codes "unknown order"
+
+abbrev pub fault_word : PlayFault → List ℕ
+fault_word LongFile = codes "long file"
+fault_word ShortMemory = codes "short memory"
+fault_word (Schedule fault) = schedule_fault_word fault
+fault_word Full = codes "full"
 
 -- the place of the faulty number's first byte
 abbrev pub fault_place : PlayFault → ℕ

@@ -1,5 +1,5 @@
 -- The file of an arm count and a list of orders, or why it is refused.
-use Rattle.std.specs.Prelude.{ℕ, Bool, if◌then◌else◌, List, ◌++◌, length, Ok, Err, Result, nat_le}
+use Rattle.std.specs.Prelude.{ℕ, codes, Bool, if◌then◌else◌, List, ◌++◌, length, Ok, Err, Result, nat_le}
 use Rattle.std.specs.List.{flat_map, list_all}
 use Rattle.schedule.specs.declared.order_number.Order.{Order}
 use Rattle.schedule.specs.declared.writer.WriteRefusal.{WriteRefusal}
@@ -14,6 +14,12 @@ write_refusal_number ArmCount = 14
 write_refusal_number Large = 13
 write_refusal_number LongFile = 9
 write_refusal_number Full = 16
+
+abbrev pub write_refusal_word : WriteRefusal → List ℕ
+write_refusal_word ArmCount = codes "arm count"
+write_refusal_word Large = codes "large"
+write_refusal_word LongFile = codes "long file"
+write_refusal_word Full = codes "full"
 
 abbrev pub order_bytes : List Order → List ℕ
 order_bytes orders = flat_map (λ o. groups (order_number o)) orders

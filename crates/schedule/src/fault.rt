@@ -3,50 +3,41 @@ ghost use Rattle.schedule.specs.declared.fault.ScheduleFault.TheVariants as S;
 ghost use Rattle.schedule.specs.declared.fault.PlayFault.TheVariants as P;
 ghost use Rattle.schedule.specs.Faults.{fault_number, fault_place, fault_order, fault_layer};
 
-use thiserror::Error;
+use std::error::Error;
+use std::fmt;
 
 /// What is wrong with a number. The place is that of its first byte, the file's first being 0.
-#[derive(Clone, Copy, Debug, PartialEq, Eq, Error)]
+#[derive(Clone, Copy, Debug, PartialEq, Eq)]
 pub enum NumberFault {
     /// The file ends before the number does.
-    #[error("cut")]
     Cut { place: usize },
     /// The second group is 0.
-    #[error("padded")]
     Padded { place: usize },
     /// The second group says that more follow.
-    #[error("large")]
     Large { place: usize },
 }
 
 /// What is wrong with a schedule. The order is the count of the faulty number, the arm count being 0.
-#[derive(Clone, Copy, Debug, PartialEq, Eq, Error)]
+#[derive(Clone, Copy, Debug, PartialEq, Eq)]
 pub enum ScheduleFault {
     /// A number is faulty.
-    #[error("{fault}")]
     Number { fault: NumberFault, order: usize },
     /// The arm count is 0 or above [`ARM_LIMIT`](crate::ARM_LIMIT).
-    #[error("arm count")]
     ArmCount,
     /// An order's number has kind 3.
-    #[error("unknown order")]
     UnknownOrder { place: usize, order: usize },
 }
 
 /// Why a file is not read or played.
-#[derive(Clone, Copy, Debug, PartialEq, Eq, Error)]
+#[derive(Clone, Copy, Debug, PartialEq, Eq)]
 pub enum PlayFault {
     /// The file has more than 60,000 bytes.
-    #[error("long file")]
     LongFile,
     /// The memory for the report has fewer bytes than play asks for.
-    #[error("short memory")]
     ShortMemory,
     /// The file is faulty.
-    #[error(transparent)]
     Schedule(ScheduleFault),
     /// The reader's memory is for fewer orders than the file has.
-    #[error("full")]
     Full,
 }
 
@@ -141,3 +132,55 @@ impl PlayFault {
         }
     }
 }
+
+impl fmt::Display for NumberFault {
+    ghost use Rattle.std.specs.Prelude.{Some};
+    ghost use Rattle.schedule.specs.Faults.{number_fault_word};
+
+    ghost output = { λ n. Some (number_fault_word n) };
+
+    fn fmt<W: fmt::Write>(&self, f: &mut fmt::Formatter<W>) -> fmt::Result {
+        f.write_str(match self {
+            NumberFault::Cut { .. } => "cut",
+            NumberFault::Padded { .. } => "padded",
+            NumberFault::Large { .. } => "large",
+        })
+    }
+}
+
+impl Error for NumberFault {}
+
+impl fmt::Display for ScheduleFault {
+    ghost use Rattle.std.specs.Prelude.{Some};
+    ghost use Rattle.schedule.specs.Faults.{schedule_fault_word};
+
+    ghost output = { λ s. Some (schedule_fault_word s) };
+
+    fn fmt<W: fmt::Write>(&self, f: &mut fmt::Formatter<W>) -> fmt::Result {
+        match self {
+            ScheduleFault::Number { fault: carried, .. } => carried.fmt(f),
+            ScheduleFault::ArmCount => f.write_str("arm count"),
+            ScheduleFault::UnknownOrder { .. } => f.write_str("unknown order"),
+        }
+    }
+}
+
+impl Error for ScheduleFault {}
+
+impl fmt::Display for PlayFault {
+    ghost use Rattle.std.specs.Prelude.{Some};
+    ghost use Rattle.schedule.specs.Faults.{fault_word};
+
+    ghost output = { λ p. Some (fault_word p) };
+
+    fn fmt<W: fmt::Write>(&self, f: &mut fmt::Formatter<W>) -> fmt::Result {
+        match self {
+            PlayFault::LongFile => f.write_str("long file"),
+            PlayFault::ShortMemory => f.write_str("short memory"),
+            PlayFault::Schedule(carried) => carried.fmt(f),
+            PlayFault::Full => f.write_str("full"),
+        }
+    }
+}
+
+impl Error for PlayFault {}

@@ -1,8 +1,9 @@
-ghost use Rattle.std.specs.Prelude.{◌≡◌, ◌+◌, ◌≤◌, ◌++◌, length, take, drop};
+ghost use Rattle.std.specs.Prelude.{◌≡◌, ◌+◌, ◌≤◌, ◌++◌, length, nat_le, take, drop};
 ghost use Rattle.schedule.specs.FileLimits.{largest_number};
 ghost use Rattle.schedule.specs.Numbers.{number_from, groups};
 
 use crate::fault::NumberFault;
+use crate::limit::LARGEST_NUMBER;
 
 // A group of seven bits is below this.
 const GROUP: u32 = 128;
@@ -37,6 +38,13 @@ pub fn number_at(file: &[u8], at: usize) -> Result<Number, NumberFault>
         }),
         _ => Err(NumberFault::Large { place: at }),
     }
+}
+
+/// Whether a number fits two groups, as each number of a file does.
+pub fn fits_two_groups(number: u32) -> bool
+    ensures { result ≡ nat_le number largest_number }
+{
+    number <= LARGEST_NUMBER
 }
 
 // How many bytes a number has.

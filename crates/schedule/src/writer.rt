@@ -3,25 +3,22 @@ ghost use Rattle.schedule.specs.Laws.{Inverse, IsLawful, WasWritten};
 ghost use Rattle.schedule.specs.Reading.{contents};
 ghost use Rattle.schedule.specs.Writing.{write_refusal_number, file_bytes, file_of, length_of, write_answer, write_memory};
 
-use crate::limit::{ARM_LIMIT, FILE_LIMIT, LARGEST_NUMBER};
-use crate::number::{put, width};
+use crate::limit::{ARM_LIMIT, FILE_LIMIT};
+use crate::number::{fits_two_groups, put, width};
 use crate::order_number::Order;
-use thiserror::Error;
+use std::error::Error;
+use std::fmt;
 
 /// Why a list of orders is not written.
-#[derive(Clone, Copy, Debug, PartialEq, Eq, Error)]
+#[derive(Clone, Copy, Debug, PartialEq, Eq)]
 pub enum WriteRefusal {
     /// The arm count is 0 or above [`ARM_LIMIT`].
-    #[error("arm count")]
     ArmCount,
     /// An order's number is above 16,383.
-    #[error("large")]
     Large,
     /// The file would have more than 60,000 bytes.
-    #[error("long file")]
     LongFile,
     /// The memory is for fewer bytes than the file has.
-    #[error("full")]
     Full,
 }
 
@@ -39,6 +36,24 @@ impl WriteRefusal {
     }
 }
 
+impl fmt::Display for WriteRefusal {
+    ghost use Rattle.std.specs.Prelude.{Some};
+    ghost use Rattle.schedule.specs.Writing.{write_refusal_word};
+
+    ghost output = { λ r. Some (write_refusal_word r) };
+
+    fn fmt<W: fmt::Write>(&self, f: &mut fmt::Formatter<W>) -> fmt::Result {
+        f.write_str(match self {
+            WriteRefusal::ArmCount => "arm count",
+            WriteRefusal::Large => "large",
+            WriteRefusal::LongFile => "long file",
+            WriteRefusal::Full => "full",
+        })
+    }
+}
+
+impl Error for WriteRefusal {}
+
 // How many bytes the file of a list has.
 fn measure(arms: usize, orders: &[Order]) -> Result<usize, WriteRefusal>
     ensures { result ≡ length_of (file_of arms orders.now) }
@@ -47,11 +62,13 @@ fn measure(arms: usize, orders: &[Order]) -> Result<usize, WriteRefusal>
         return Err(WriteRefusal::ArmCount);
     }
     let mut size = width(arms as u32);
-    for order in orders {
+    for (i, order) in orders.iter().enumerate() {
         let number = order.number();
-        if number > LARGEST_NUMBER {
+        if !fits_two_groups(number) {
             return Err(WriteRefusal::Large);
         }
+        // The arm count and each of the i orders so far have two bytes at most.
+        prove!(size <= 2 * i + 2);
         size += width(number);
     }
     if size > FILE_LIMIT {
@@ -68,7 +85,9 @@ fn fill(arms: usize, orders: &[Order], out: &mut [u8]) -> usize
     ensures after { out.new ≡ file_bytes arms orders.now ++ drop (length (file_bytes arms orders.now)) out.old }
 {
     let mut at = put(out, 0, arms as u32);
-    for order in orders {
+    for (i, order) in orders.iter().enumerate() {
+        // The arm count and each of the i orders so far have a byte at least.
+        prove!(at > i);
         at = put(out, at, order.number());
     }
     at

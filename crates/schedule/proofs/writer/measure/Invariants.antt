@@ -2,9 +2,10 @@ use Rattle.std.proofs.Common.{◌≡◌, ◌+◌, ◌*◌, ◌≤◌, true, leng
 use Rattle.schedule.specs.Writing.{file_bytes, are_small}
 use Rattle.schedule.proofs.writer.measure.Given as goal
 
-abbrev pub invariant-loop-order : goal.invariant-loop-order
-invariant-loop-order l = record {
-  size_is : l.size ≡ length (file_bytes l.arms (take l.order-index l.orders));
-  small : are_small (take l.order-index l.orders) ≡ true;
-  short : l.size ≤ 2 * l.order-index + 2;
+-- the size is that of the file of the first i orders, which are all small; a number has at most two bytes
+abbrev pub invariant-loop-i : goal.invariant-loop-i
+invariant-loop-i l = record {
+  size_is : l.size ≡ length (file_bytes l.arms (take l.i l.orders));
+  small : are_small (take l.i l.orders) ≡ true;
+  short : l.size ≤ 2 * l.i + 2;
 }
