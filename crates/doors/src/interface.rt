@@ -1,5 +1,7 @@
-ghost use Rattle.std.specs.Prelude.{◌≡◌, ◌≤◌};
+ghost use Rattle.std.specs.Prelude.{◌≡◌, ℕ, ◌≤◌};
 ghost use Rattle.door.specs.Accesses.{ShowsAccesses};
+ghost use Rattle.door.specs.Doorways.{ShowsReads};
+ghost use Rattle.door.specs.Indexes.{ShowsIndexes};
 ghost use Rattle.door.specs.Law.{ShowsWay};
 ghost use Rattle.door.specs.Rules.{Phased, ShowsBits, ShowsRules};
 ghost use Rattle.door.specs.Table.{Table};
@@ -75,4 +77,13 @@ pub trait Door: Copy {
 
     // Each accepted step accesses one of the registers that the arms take, with a value that the bank takes.
     ghost accesses: { ShowsAccesses table };
+
+    // A step of a doorway reads the group exactly where the table says that the bit is read, and there the arm gets its side.
+    ghost reads: { ShowsReads table };
+
+    // The index of an arm is one of the gate's arms while it waits, else 0.
+    ghost indexes: { ShowsIndexes table };
+
+    // The group is one of the registers that the arms take.
+    ghost some_room: { (n : ℕ) → 1 ≤ table.room n };
 }

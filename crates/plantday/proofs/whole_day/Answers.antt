@@ -25,7 +25,7 @@ returns g c =
     let door = g.D.Door.table in
     let met = g.met.D.Door in
     record {
-      fair = fair_after door met.phased met.rules met.bits met.way (bank.memory c.args.bank) bank.HIGHEST 7 6 (bank.values c.args.bank) (subst (λ s. Called door s c.loop-t.gate) c.make-gate.ensures.made c.loop-t.invariant);
+      fair = fair_after door met.phased met.rules met.bits met.way met.reads (bank.memory c.args.bank) bank.HIGHEST 7 6 (bank.values c.args.bank) (subst (λ s. Called door s c.loop-t.gate) c.make-gate.ensures.made c.loop-t.invariant);
       turns = looked door c.loop-t.gate 1 c.unwrap.result (sym c.look.ensures.answer ∙ c.unwrap.ensures);
       lent = memory_stays door c.loop-t.invariant ∙ ap (λ s. s.memory) c.make-gate.ensures.made;
     }
