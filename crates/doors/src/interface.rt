@@ -12,7 +12,7 @@ use door::access::Access;
 /// A door, by the positions that an arm has in it: a gate keeps one in the record of each arm.
 ///
 /// Whoever writes a door gives its table, the code of the table, and shows the laws at the end.
-/// How often an arm is passed follows from the rules; right of way and going inside a door shows by an argument of its own.
+/// How often an arm is passed follows from `phased` and `rules`; right of way and going inside a door shows by an argument of its own.
 pub trait Door: Copy {
     // What the door does at each position.
     ghost table: { Table Self };
