@@ -1,4 +1,4 @@
--- The law of a gate over any door: how often an arm is passed, and its row, from the rules alone; right of way and going inside as the door shows them.
+-- The law of a gate over any door: how often an arm is passed, and its row, from the rules and where an arm rests, begins and leaves; right of way and going inside as the door shows them.
 use Rattle.std.proofs.Common.{◌≡◌, ℕ, ◌+◌, ◌-◌, ◌≤◌, Bool, true, false, cond, T, ◌↔◌, ◌⊎◌, inr, List, [], ◌∷◌, length, None, Ok, Result, sym, refl, ap, ◌∙◌, subst, ⊎_elim, arith}
 use Rattle.std.proofs.lemmas.Grind.{not_there}
 use Rattle.std.proofs.lemmas.List.{length-replicate, get_or-replicate}
@@ -10,8 +10,9 @@ use Rattle.door.specs.States.{State, made, is_arm, arm_at}
 use Rattle.door.specs.Calls.{after, run, refusal_of, answered, has_way, way_answer}
 use Rattle.door.specs.History.{goes_inside, GoesInside, is_in, past_doorway, Waits, IsPastDoorway, RightOfWay, entries_before, latest_lost, entries_since, idle_then, lost_to}
 use Rattle.door.specs.Phases.{same_phase}
+use Rattle.door.specs.Doorways.{ShowsReads}
 use Rattle.door.specs.Rules.{Phased, Always, ShowsRules}
-use Rattle.door.specs.Law.{AtMostTwice, OnceIfIdle, NotItself, AtMostTwiceUntilIdle, OnceIfIdleUntilIdle, OnceItself, RowCounts, NotesTell, RowKept, NotesKept, LostAtMostTwice, AllInside, PassingBound, ShowsWay, Fair, Law, Origin, IsReached, Tells}
+use Rattle.door.specs.Law.{AtMostTwice, OnceIfIdle, NotItself, AtMostTwiceUntilIdle, OnceIfIdleUntilIdle, OnceItself, RowCounts, NotesTell, RowKept, NotesKept, LostAtMostTwice, AllInside, WayTold, PassingBound, ShowsWay, Fair, Law, Origin, IsReached, Tells}
 use Rattle.door.specs.declared.call.Call.{Call}
 use Rattle.door.specs.declared.call.Call.TheVariants.{Way}
 use Rattle.door.specs.declared.phase.Phase.TheVariants as P
@@ -22,6 +23,7 @@ use Rattle.door.proofs.Accepted.{arm_in}
 use Rattle.door.proofs.Passed.{Passed, passed_run, bound, once_itself as exactly_once, start_fresh, start_passed}
 use Rattle.door.proofs.Runs.{run_n}
 use Rattle.door.proofs.Changes.{change_of}
+use Rattle.door.proofs.Doorways.{reading}
 use Rattle.door.proofs.Rows.{Row, Kept, kept_run}
 
 -- the answer of way
@@ -138,9 +140,10 @@ passing door phased rules = record {
 
 -- of any door that shows the rules, right of way and going inside
 module _ {At : Type 0} (door : Table At) (phased : Phased door) (rules : ShowsRules door) (way : ShowsWay door) where
-  pub fair : Always door (Fair door)
-  fair memory high number wanted regs past =
+  pub fair : ShowsReads door → Always door (Fair door)
+  fair reads memory high number wanted regs past =
       let bound = passing door phased rules in
+      let read = reading door phased rules reads in
       record {
         alike = way.alike memory high number wanted regs past;
         twice = bound.twice memory high number wanted regs past;
@@ -154,14 +157,21 @@ module _ {At : Type 0} (door : Table At) (phased : Phased door) (rules : ShowsRu
         row_kept = bound.row_kept memory high number wanted regs past;
         notes_kept = bound.notes_kept memory high number wanted regs past;
         lost = bound.lost memory high number wanted regs past;
+        read_once = read.once memory high number wanted regs past;
+        read_if_sided = read.if_sided memory high number wanted regs past;
+        side_read = read.side memory high number wanted regs past;
         rounds = way.rounds memory high number wanted regs past;
         told = way.told memory high number wanted regs past;
       }
 
-  pub law : (s : State At) → Law door s
-  law s memory high number wanted regs past e = subst (Fair door (made door memory high number wanted regs) past) e (fair memory high number wanted regs past)
+  pub law : ShowsReads door → (s : State At) → Law door s
+  law reads s memory high number wanted regs past e = subst (Fair door (made door memory high number wanted regs) past) e (fair reads memory high number wanted regs past)
 
-  -- of a state that calls lead to: whether an arm goes inside is decided, so any origin will do
+  -- of a state that calls lead to
+  from_origin : (P : State At → Type 0) → Always door (λ start past s. P s) → (s : State At) → Origin door s → P s
+  from_origin P h s p = subst P p.leads (h p.memory p.high p.number p.wanted p.regs p.calls)
+
+  -- whether an arm goes inside is decided, so any origin will do
   decided : (w : ℕ) (s : State At) (cs : List Call) → GoesInside door w s cs ⊎ ¬ (GoesInside door w s cs)
   decided w s [] = inr (λ h. h)
   decided w s (c ∷ cs) = let x = decided w (after door s c) cs in let y = test (goes_inside door w s c) in grind arith
@@ -169,12 +179,12 @@ module _ {At : Type 0} (door : Table At) (phased : Phased door) (rules : ShowsRu
   -- every waiting arm does
   pub all_inside : (s : State At) → IsReached door s → AllInside door s
   all_inside s reached w wait cs rounds =
-      ⊎_elim (λ g. g) (λ n. absurd (not_there reached (λ p. n ((law s p.memory p.high p.number p.wanted p.regs p.calls p.leads).rounds w wait cs rounds)))) (decided w s cs)
+      ⊎_elim (λ g. g) (λ n. absurd (not_there reached (λ p. n (from_origin (AllInside door) way.rounds s p w wait cs rounds)))) (decided w s cs)
 
   -- what way answers of a waiting arm
   pub tells : (s : State At) (w : ℕ) → IsReached door s → Tells door s w (way_answer door s w)
   tells s w reached wait =
-      let told : Origin door s → (T (has_way door s w) ↔ RightOfWay door s w) = λ p. (law s p.memory p.high p.number p.wanted p.regs p.calls p.leads).told w wait in
+      let told : Origin door s → (T (has_way door s w) ↔ RightOfWay door s w) = λ p. from_origin (WayTold door) way.told s p w wait in
       let here : refusal_of door s (Way w) ≡ None = grind arith in
       let is : way_answer door s w ≡ Ok (has_way door s w) = ap (λ r. answered r (has_way door s w)) here in
       let yes = yes_is (has_way door s w) in (

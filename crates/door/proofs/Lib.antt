@@ -13,11 +13,13 @@ pub mod Steps
 pub mod Spared
 -- what leads to a gate
 pub mod Origins
--- the rules put together; how often an arm is passed, from them alone, of the meaning and of a gate's history
+-- the rules put together; how often an arm is passed, from them alone of the meaning, and with the phases of three places of a gate's history
 pub mod Changes
 pub mod GetsPast
 pub mod Passed
 pub mod Rows
+-- each doorway reads the bit once
+pub mod Doorways
 -- the law, put together
 pub mod Fairness
 -- what an arm takes at most once a visit
@@ -26,5 +28,7 @@ pub mod Takes
 pub mod Bounds
 pub mod Turns
 pub mod Makeable
+-- the index of an arm
+pub mod Indexes
 -- gates over unlike banks that go the same way
 pub mod Twins

@@ -1,6 +1,6 @@
 -- Two gates of one door over any two banks, of one number, with as many arms and the same records, go the same way:
 -- what else the banks hold makes no difference.
-use Rattle.std.proofs.Common.{◌≡◌, ℕ, zero, suc, ◌+◌, ◌-◌, ◌<◌, ◌≤◌, eqb, cond, T, List, [], ◌∷◌, get_or, set, map, drop, length, None, Some, Option, inl, inr, sym, refl, ap, ◌∙◌, subst, true, false, arith}
+use Rattle.std.proofs.Common.{◌≡◌, ℕ, ◌+◌, ◌-◌, ◌<◌, ◌≤◌, T, List, get_or, set, map, drop, length, None, Some, Option, inl, inr, sym, refl, ap, ◌∙◌, subst, true, false, arith}
 use Rattle.std.specs.List.{range_with_len}
 use Rattle.std.proofs.lemmas.Bool.{cases_lt}
 use Rattle.std.proofs.lemmas.Bool.Decides.{nat_tests}
@@ -14,7 +14,6 @@ use Rattle.door.specs.Calls.{refusal_of, step_refusal, access_at, done, after, u
 use Rattle.door.specs.Law.{Origin}
 use Rattle.door.specs.Making.{arms_for, cleared, made_regs}
 use Rattle.door.specs.Registers.{group, value_read, regs_after}
-use Rattle.door.specs.Rules.{ShowsBits}
 use Rattle.door.specs.States.{State, made, arm_at, phase_at, bit_of, with_table, with_arm}
 use Rattle.door.specs.declared.access.Access.{Access}
 use Rattle.door.specs.declared.arm.Arm.{Arm}
@@ -22,10 +21,8 @@ use Rattle.door.specs.declared.call.Call.{Call}
 use Rattle.door.specs.declared.call.Call.TheVariants.{Begin as begin, Step as step, Admit as admit, Leave as leave}
 use Rattle.door.specs.declared.refusal.Refusal.{Refusal}
 use Rattle.door.proofs.Accepted.{known_arm}
-use Rattle.door.proofs.Makeable.{has_room, accesses_one, from_origin}
+use Rattle.door.proofs.Makeable.{accesses_one, from_origin}
 use Rattle.door.proofs.Origins.{origin_made, origin_after}
-use Rattle.door.proofs.Rooms.{arms_whole}
-use Rattle.door.proofs.Runs.{run_high, few_arms}
 use Rattle.door.proofs.Spared.{arms_having_read}
 
 -- the same values in the first k registers
@@ -94,30 +91,13 @@ module _ {At : Type 0} (door : Table At) where
   value_same : (n : ℕ) (regs other : List ℕ) (a : Access) → InRoom door n a → SameUpTo (door.room n) regs other → value_read other a ≡ value_read regs a
   value_same n regs other a within same = grind (arith, same)
 
-  -- the group is one of the registers that arms take: else the bit would be what the bank held, and not 0 or 1
-  seven : (n k : ℕ) → 1 ≤ n → k ≡ 0 → cond (eqb n 0) 0 (get_or (cond (eqb n 0) (7 ∷ []) (cleared door k (7 ∷ []))) group 0) ≡ 7
-  seven zero k some e = absurd (omega arith)
-  seven (suc n) k some e = let is : get_or (cleared door k (7 ∷ [])) group 0 ≡ 7 = ap (λ k. get_or (cleared door k (7 ∷ [])) group 0) e in grind (arith, nat_tests)
-
-  some_room : ShowsBits door → (s : State At) → Origin door s → 1 ≤ s.n → 1 ≤ door.room s.n
-  some_room bits s p some = elim (cases_lt 0 (door.room s.n)) [
-    | inl l ↦ omega (arith, l)
-    | inr none ↦
-        let fits = has_room door s p some in
-        let high : s.high ≡ p.high = sym (ap (λ t. t.high) p.leads) ∙ run_high door p.calls _ in
-        let few = few_arms door s p in
-        let count : arms_for door p.high 1 s.n ≡ s.n = arms_whole door p.high 1 s.n some few (let x = fits.1 in omega arith) (omega arith) in
-        let bit = (bits p.memory p.high 0 s.n (7 ∷ []) []).bit in
-        let is = seven (arms_for door p.high 1 s.n) (door.room (arms_for door p.high 1 s.n)) (omega arith) (ap door.room count ∙ (let zero_is : door.room s.n ≡ 0 = omega arith in zero_is)) in
-        absurd (omega arith)
-  ]
-
-  pub bit_same : ShowsBits door → (s t : State At) → Twins s t → bit_of t ≡ bit_of s
-  bit_same bits s t h =
+  -- the bit is in one of the registers that arms take
+  pub bit_same : ((n : ℕ) → 1 ≤ door.room n) → (s t : State At) → Twins s t → bit_of t ≡ bit_of s
+  bit_same some_room s t h =
       let same = h.same in
       let n = same.n in
       elim (cases_lt 0 s.n) [
-        | inl some ↦ let e = same.registers some group (some_room bits s h.origin some) in grind (arith, nat_tests)
+        | inl some ↦ let e = same.registers some group (some_room s.n) in grind (arith, nat_tests)
         | inr none ↦ grind (arith, nat_tests)
       ]
 

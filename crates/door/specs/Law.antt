@@ -1,10 +1,10 @@
 -- The fairness of a gate, over any door.
-use Rattle.std.specs.Prelude.{◌≡◌, ℕ, ◌+◌, ◌-◌, ◌*◌, ◌≤◌, Bool, true, false, if◌then◌else◌, T, ◌↔◌, List, Ok, Result, slice_index, slice_index_or}
+use Rattle.std.specs.Prelude.{◌≡◌, ℕ, ◌+◌, ◌-◌, ◌*◌, ◌≤◌, Bool, true, false, if◌then◌else◌, not, T, ◌↔◌, List, Some, Ok, Result, slice_index, slice_index_or}
 use Rattle.bank.specs.Lent.{Lent}
 use Rattle.door.specs.Table.{Table}
 use Rattle.door.specs.States.{State, made, is_arm, arm_at}
 use Rattle.door.specs.Calls.{run, has_way}
-use Rattle.door.specs.History.{is_in, Waits, IsPastDoorway, RightOfWay, bit_read, entries_since, idle_then, lost_to, Rounds, GoesInside}
+use Rattle.door.specs.History.{is_in, Waits, IsPastDoorway, RightOfWay, reads_for, bit_read, reads_in_visit, entries_since, idle_then, lost_to, Rounds, GoesInside}
 use Rattle.door.specs.Rules.{Always}
 use Rattle.door.specs.declared.call.Call.{Call}
 use Rattle.door.specs.declared.phase.Phase.TheVariants as P
@@ -57,6 +57,18 @@ module _ {At : Type 0} (door : Table At) where
   abbrev pub LostAtMostTwice : State At → List Call → State At → Type 0
   LostAtMostTwice start past s = (w b : ℕ) → T (is_arm s w) → T (is_arm s b) → (lost_to door w b start past ≤ 2) × (T (idle_then door w b start past) → lost_to door w b start past ≤ 1)
 
+  -- since it last began, an arm past its doorway has read the bit exactly once
+  abbrev pub ReadOnce : State At → List Call → State At → Type 0
+  ReadOnce start past s = (w : ℕ) → IsPastDoorway door s w → reads_in_visit door w start past ≡ 1
+
+  -- and an arm that is not idle once if it has a side, not yet if its side is missing
+  abbrev pub ReadIfSided : State At → List Call → State At → Type 0
+  ReadIfSided start past s = (w : ℕ) → T (is_arm s w) → T (not (is_in door P.I s w)) → reads_in_visit door w start past ≡ reads_for (arm_at door s w).side
+
+  -- its side is the bit that it read
+  abbrev pub SideRead : State At → List Call → State At → Type 0
+  SideRead start past s = (w v : ℕ) → T (is_arm s w) → T (not (is_in door P.I s w)) → (arm_at door s w).side ≡ Some v → v ≡ bit_read door w start past
+
   -- a waiting arm goes inside within 50 n + 10 rounds, whatever else is called
   abbrev pub AllInside : State At → Type 0
   AllInside s = (w : ℕ) → Waits door s w → (further : List Call) → Rounds door (50 * s.n + 10) s further → GoesInside door w s further
@@ -65,7 +77,7 @@ module _ {At : Type 0} (door : Table At) where
   abbrev pub WayTold : State At → Type 0
   WayTold s = (w : ℕ) → Waits door s w → (T (has_way door s w) ↔ RightOfWay door s w)
 
--- how often an arm is passed, from every making on; the meaning and the rules alone give it
+-- how often an arm is passed, from every making on; the rules give it, and the phases of the places where an arm rests, begins and leaves
 pub record PassingBound {At : Type 0} (door : Table At) : Type 0 where
   pub twice : Always door (AtMostTwice door)
   pub once : Always door (OnceIfIdle door)
@@ -78,6 +90,12 @@ pub record PassingBound {At : Type 0} (door : Table At) : Type 0 where
   pub row_kept : Always door (RowKept door)
   pub notes_kept : Always door (NotesKept door)
   pub lost : Always door (LostAtMostTwice door)
+
+-- each doorway reads the bit exactly once, from every making on; the rules, and what a door shows of the accesses of its doorway, give it
+pub record ReadingBound {At : Type 0} (door : Table At) : Type 0 where
+  pub once : Always door (ReadOnce door)
+  pub if_sided : Always door (ReadIfSided door)
+  pub side : Always door (SideRead door)
 
 -- what a door shows by an argument of its own: right of way, and going inside
 pub record ShowsWay {At : Type 0} (door : Table At) : Type 0 where
@@ -99,6 +117,9 @@ pub record Fair {At : Type 0} (door : Table At) (start : State At) (past : List 
   pub row_kept : RowKept door start past s
   pub notes_kept : NotesKept door start past s
   pub lost : LostAtMostTwice door start past s
+  pub read_once : ReadOnce door start past s
+  pub read_if_sided : ReadIfSided door start past s
+  pub side_read : SideRead door start past s
   pub rounds : AllInside door s
   pub told : WayTold door s
 

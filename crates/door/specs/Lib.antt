@@ -13,5 +13,7 @@ pub mod Turns
 pub mod Takes
 pub mod Meaning
 pub mod Rules
+pub mod Doorways
+pub mod Indexes
 pub mod Law
 pub mod Accesses

@@ -10,7 +10,7 @@ use Rattle.door.specs.declared.call.Call.{Call}
 use Rattle.door.specs.declared.phase.Phase.TheVariants as P
 
 -- the phases of an arm follow one another as I, D, W, F, X, I;
--- each doorway reads the bit exactly once, and the side that it gives is kept to the last exit step
+-- each doorway gives the arm its side exactly once, and it is kept to the last exit step; Doorways.antt says at which access
 pub data Follows : Stage → Stage → Type 0 where
   stays : {a : Stage} → Follows a a
   begins : Follows resting coming

@@ -37,7 +37,7 @@ module _ {At : Type 0} (door : Table At) where
   TakenAtMostTwice start events s = (w b : ℕ) → IsPastDoorway door s w → T (is_arm s b) → TakesOnce b start events false →
       (takes_on w b start events 0 ≤ 2) × (T (idle_then door w b start (calls_of events)) → takes_on w b start events 0 ≤ 1)
 
--- from every making on; the meaning and the rules alone give it
+-- from every making on; the rules give it, and the phases of the places where an arm rests, begins and leaves
 abbrev pub TakingBound : {At : Type 0} → Table At → Type 0
 TakingBound {At} door = (memory : Lent) (high number wanted : ℕ) (regs : List ℕ) (events : List Event) →
     let start : State At = made door memory high number wanted regs in

@@ -1,9 +1,11 @@
-ghost use Rattle.door.specs.Law.{PassingBound};
+ghost use Rattle.door.specs.Doorways.{ShowsReads};
+ghost use Rattle.door.specs.Law.{PassingBound, ReadingBound};
 ghost use Rattle.door.specs.Rules.{Phased, ShowsRules};
 ghost use Rattle.door.specs.Table.{Table};
 ghost use Rattle.door.specs.Takes.{TakingBound};
 
-/// How often an arm is passed, of any door with positions P: it follows from the rules alone. The call does nothing; its contract is the law.
+/// How often an arm is passed, of any door with positions P: it follows from the rules, and from where an arm rests, begins and leaves.
+/// The call does nothing; its contract is the law.
 pub fn passing_bound<P>()
     ensures { (door : Table P) → Phased door → ShowsRules door → PassingBound door }
 {}
@@ -12,4 +14,10 @@ pub fn passing_bound<P>()
 /// of any door with positions P. The call does nothing; its contract is the law.
 pub fn taking_bound<P>()
     ensures { (door : Table P) → Phased door → ShowsRules door → TakingBound door }
+{}
+
+/// That each doorway reads the bit exactly once, and that the side is this bit, of any door with positions P that shows what its doorway accesses.
+/// The call does nothing; its contract is the law.
+pub fn reading_bound<P>()
+    ensures { (door : Table P) → Phased door → ShowsRules door → ShowsReads door → ReadingBound door }
 {}

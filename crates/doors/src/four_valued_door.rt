@@ -1,6 +1,6 @@
 ghost use Rattle.std.specs.Prelude.{◌≡◌};
 ghost use Rattle.four_valued.specs.Positions.{read_by, onward, four_valued};
-ghost use Rattle.four_valued.proofs.Shown.{phased as phased_shown, bits as bits_shown, rules as rules_shown, way as way_shown, accesses as accesses_shown};
+ghost use Rattle.four_valued.proofs.Shown.{phased as phased_shown, bits as bits_shown, rules as rules_shown, way as way_shown, accesses as accesses_shown, reads as reads_shown, indexes as indexes_shown, some_room as some_room_shown};
 
 use crate::interface::Door;
 use door::Phase;
@@ -135,4 +135,10 @@ impl Door for FourValued {
     ghost way = { way_shown };
 
     ghost accesses = { accesses_shown };
+
+    ghost reads = { reads_shown };
+
+    ghost indexes = { indexes_shown };
+
+    ghost some_room = { some_room_shown };
 }

@@ -1,5 +1,7 @@
-ghost use Rattle.std.specs.Prelude.{◌≡◌, ◌≤◌};
+ghost use Rattle.std.specs.Prelude.{◌≡◌, ℕ, ◌≤◌};
 ghost use Rattle.door.specs.Accesses.{ShowsAccesses};
+ghost use Rattle.door.specs.Doorways.{ShowsReads};
+ghost use Rattle.door.specs.Indexes.{ShowsIndexes};
 ghost use Rattle.door.specs.Law.{ShowsWay};
 ghost use Rattle.door.specs.Rules.{Phased, ShowsBits, ShowsRules};
 ghost use Rattle.door.specs.Table.{Table};
@@ -10,7 +12,7 @@ use door::access::Access;
 /// A door, by the positions that an arm has in it: a gate keeps one in the record of each arm.
 ///
 /// Whoever writes a door gives its table, the code of the table, and shows the laws at the end.
-/// How often an arm is passed follows from the rules; right of way and going inside a door shows by an argument of its own.
+/// How often an arm is passed follows from `phased` and `rules`; right of way and going inside a door shows by an argument of its own.
 pub trait Door: Copy {
     // What the door does at each position.
     ghost table: { Table Self };
@@ -75,4 +77,13 @@ pub trait Door: Copy {
 
     // Each accepted step accesses one of the registers that the arms take, with a value that the bank takes.
     ghost accesses: { ShowsAccesses table };
+
+    // A step of a doorway reads the group exactly where the table says that the bit is read, and there the arm gets its side.
+    ghost reads: { ShowsReads table };
+
+    // The index of an arm is one of the gate's arms while it waits, else 0.
+    ghost indexes: { ShowsIndexes table };
+
+    // The group is one of the registers that the arms take.
+    ghost some_room: { (n : ℕ) → 1 ≤ table.room n };
 }

@@ -1,6 +1,6 @@
 ghost use Rattle.std.specs.Prelude.{◌≡◌};
 ghost use Rattle.three_bits.specs.Positions.{choosing_of, mygroup_of, flag_of, read_by, onward, three_bits};
-ghost use Rattle.three_bits.proofs.Shown.{phased as phased_shown, bits as bits_shown, rules as rules_shown, way as way_shown, accesses as accesses_shown};
+ghost use Rattle.three_bits.proofs.Shown.{phased as phased_shown, bits as bits_shown, rules as rules_shown, way as way_shown, accesses as accesses_shown, reads as reads_shown, indexes as indexes_shown, some_room as some_room_shown};
 
 use crate::interface::Door;
 use door::Phase;
@@ -146,4 +146,10 @@ impl Door for ThreeBits {
     ghost way = { way_shown };
 
     ghost accesses = { accesses_shown };
+
+    ghost reads = { reads_shown };
+
+    ghost indexes = { indexes_shown };
+
+    ghost some_room = { some_room_shown };
 }

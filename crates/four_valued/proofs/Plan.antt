@@ -4,14 +4,14 @@ use Rattle.std.proofs.lemmas.Bool.Decides.{nat_tests}
 use Rattle.std.proofs.lemmas.Bool.{cond-false, ne_eqb}
 use Rattle.machine.specs.Kinds as K
 use Rattle.machine.proofs.Machine.{Stance, idle, d1, d2, d3, d4, d5, waits, inside, x1, x2, phase, step_waiting, outcome, step_arm, turn_step, may_step}
-use Rattle.mirror.proofs.Plans.{bit, number_of, Deed, rest, ask, look, tell, turn, is_ask, is_d2, is_x2, turned_by, told_by, access_for, seen, Plan}
+use Rattle.mirror.proofs.Plans.{bit, number_of, Deed, rest, ask, look, tell, turn, is_ask, is_d2, is_x2, looks_at, turned_by, told_by, access_for, seen, Plan}
 use Rattle.four_valued.specs.declared.position.Doorway.TheVariants.{Choose, Read, Tell}
 use Rattle.four_valued.specs.declared.position.Place.{Place}
 use Rattle.four_valued.specs.declared.position.Place.TheVariants as W
 use Rattle.four_valued.specs.declared.position.Exit.TheVariants.{Turn, Rest}
 use Rattle.four_valued.specs.declared.position.FourValued.{FourValued}
 use Rattle.four_valued.specs.declared.position.FourValued.TheVariants.{Idle, Doorway, Waiting, Inside, Leaving}
-use Rattle.four_valued.specs.Positions.{four_valued, phase_of, reads as reads_here, is_turned as turned_here, access_of, next_of, next_place}
+use Rattle.four_valued.specs.Positions.{four_valued, phase_of, reads as reads_here, is_turned as turned_here, index_of, access_of, next_of, next_place}
 
 -- where a stance stands; the machine's arms never come to d3, d4 and W6 at this door
 abbrev place_of : K.Place → Place
@@ -129,6 +129,7 @@ plan = record {
   at_pass = λ u. refl;
   reads = λ a. (let x : reads_here (place a) ≡ is_d2 a = grind arith in x);
   turned = λ a. (let x : turned_here (place a) ≡ is_x2 a = grind arith in x);
+  indexed = λ a. (let x : index_of (place a) ≡ looks_at a = grind arith in x);
   accesses = accesses;
   leads = leads;
   asks = λ a h. (let x : is_ask (deed a) ≡ is_d2 a = grind arith in x);

@@ -2,14 +2,17 @@
 use Rattle.std.proofs.Common.{◌≡◌, ℕ, ◌-◌, ◌≤◌, false, not, ◌&&◌, T, get_or, Some, None, Option, Ok, Result, OnOk, refl, arith}
 use Rattle.std.proofs.lemmas.Bool.Decides.{nat_tests}
 use Rattle.door.specs.Calls.{refusal_of, answered}
+use Rattle.door.specs.Indexes.{IndexFits, ShowsIndexes}
+use Rattle.door.specs.Law.{IsReached}
 use Rattle.door.specs.Phases.{same_phase}
 use Rattle.door.specs.Table.{Table}
-use Rattle.door.specs.States.{State, arm_at}
+use Rattle.door.specs.States.{State, is_arm, arm_at}
 use Rattle.door.specs.declared.arm.Arm.{Arm}
 use Rattle.door.specs.declared.call.Call.TheVariants.{Look as look, Step as step}
 use Rattle.door.specs.declared.phase.Phase.{Phase}
 use Rattle.door.specs.declared.phase.Phase.TheVariants as P
 use Rattle.door.specs.declared.refusal.Refusal.{Refusal}
+use Rattle.door.proofs.Indexes.{index_fits}
 use Rattle.gate.specs.Answers.{record_for, tally_answer}
 
 pub tally_told : {At : Type 0} (door : Table At) (s : State At) (w b : ℕ) (one other : Result (Arm At) Refusal) (r q : Arm At)
@@ -27,3 +30,10 @@ may_move door s i p one r is ok e moves = grind (arith, nat_tests)
 pub answered_ok : {X : Type 0} (r : Option Refusal) (x : X) (P : Type 0) → (r ≡ None → P) → OnOk (answered r x) P
 answered_ok None x P h = h refl
 answered_ok (Some r) x P h = tt
+
+-- the index of an arm whose record was read
+pub index_told : {At : Type 0} (door : Table At) → ShowsIndexes door → (s : State At) → IsReached door s → (i : ℕ) (one : Result (Arm At) Refusal) (r : Arm At) (p : Phase) (j : ℕ)
+    → one ≡ record_for door s (look i) i → one ≡ Ok r → p ≡ door.phase r.position → j ≡ door.index r.position → IndexFits s.n p j
+index_told door shown s reached i one r p j is ok ep ej =
+    let own : T (is_arm s i) × (r ≡ arm_at door s i) = (grind arith, grind arith) in
+    rw (ep, ej, own.1) (index_fits door shown s reached i own.0)

@@ -1,5 +1,6 @@
-ghost use Rattle.std.specs.Prelude.{◌≡◌};
+ghost use Rattle.std.specs.Prelude.{◌≡◌, IfOk};
 ghost use Rattle.gate.specs.Answers.{look_answer, tally_answer, most_answer};
+ghost use Rattle.door.specs.Indexes.{IndexFits};
 ghost use Rattle.door.specs.States.{bit_of};
 ghost use Rattle.door.specs.Turns.{TurnsLaw};
 ghost use Rattle.gate.specs.Gates.{IsGate};
@@ -34,6 +35,7 @@ impl<B: Bank, D: Door> Gate<B, D> {
     pub fn look(&self, arm: usize) -> Result<View, Refusal>
         ensures answer { result ≡ look_answer D.table self.now arm }
         ensures turns { TurnsLaw D.table self.now }
+        ensures index { IfOk result (λ view. IndexFits self.now.n view.phase view.index) }
     {
         let record = self.record(arm)?;
         Ok(View {

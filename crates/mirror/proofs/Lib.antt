@@ -4,9 +4,9 @@ pub mod Mirror
 pub mod Reached
 pub mod Meant
 pub mod Accesses
+pub mod Doorways
 pub mod Rounds
 pub mod Blocked
 pub mod HasWay
 pub mod WayTold
-pub mod BitRead
 pub mod Shown

@@ -54,7 +54,7 @@ module _ {At : Type 0} {door : Table At} {plan : Plan door} where
       ∙ ap (stage_of (phase (g.arms k)) (is_x2 (g.arms k))) h.sided
       ∙ stage_is (g.arms k)
 
-  arms_meant : (s : State At) (g : Machine) → Mirror plan s g → Inv g → (k : ℕ) → (meaning_of door s).arms k ≡ stage (g.arms k)
+  pub arms_meant : (s : State At) (g : Machine) → Mirror plan s g → Inv g → (k : ℕ) → (meaning_of door s).arms k ≡ stage (g.arms k)
   arms_meant s g mir inv k =
       by (λ x. x ≡ stage (g.arms k)) (is_arm s k) (stage_of (phase_at door s k) (door.turned (arm_at door s k).position) (arm_at door s k).side) resting
       (λ t. let r = arm_in s k t in arm_meant s g mir k r.0 r.1)

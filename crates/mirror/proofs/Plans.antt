@@ -41,6 +41,11 @@ abbrev pub is_x2 : Stance → Bool
 is_x2 (x2 u) = true
 is_x2 a = false
 
+-- the arm that a waiting arm looks at, else 0
+abbrev pub looks_at : Stance → ℕ
+looks_at (waits u j p) = j
+looks_at a = 0
+
 -- the bit, and cell c of the arm itself, after a deed
 abbrev pub turned_by : Deed → ℕ → ℕ
 turned_by (turn v) old = v
@@ -71,7 +76,7 @@ pub record Plan {At : Type 0} (door : Table At) : Type 0 where
   pub cell : ℕ → ℕ → ℕ
   pub holds : ℕ → Stance → ℕ
   pub deed : Stance → Deed
-  -- the table: phases, the places that the calls name, the doorway's read, the first exit step
+  -- the table: phases, the places that the calls name, the doorway's read, the first exit step, the index
   pub phased : (a : Stance) → door.phase (place a) ≡ phase a
   pub at_rest : (x : Bool) → place (idle x) ≡ door.idle
   pub at_entry : (x : Bool) → place (d1 x) ≡ door.entry
@@ -79,6 +84,7 @@ pub record Plan {At : Type 0} (door : Table At) : Type 0 where
   pub at_pass : (u : Bool) → place (inside u true) ≡ place (inside u false)
   pub reads : (a : Stance) → door.reads_bit (place a) ≡ is_d2 a
   pub turned : (a : Stance) → door.turned (place a) ≡ is_x2 a
+  pub indexed : (a : Stance) → door.index (place a) ≡ looks_at a
   -- the table: an arm's access is its deed, and leads where the machine goes
   pub accesses : (i : ℕ) (a : Stance) → door.access i (number_of a) (place a) ≡ access_for cell (deed a) i
   pub leads : (n : ℕ) (β : Bool) (arms : ℕ → Stance) (a : Stance) → T (may_step a) →

@@ -51,12 +51,26 @@ module _ {At : Type 0} {door : Table At} {plan : Plan door} where
     by_refusal : (c : Call) → (refusal_of door s c ≡ None → Came plan g (done door s c) (arm_of c) (λ b. move_of b c) (λ b. step_of b c)) → Called plan g s c
     by_refusal c f = by_answer (refusal_of door s c) (done door s c) s (λ t y. Came plan g t (arm_of c) (λ b. y && move_of b c) (λ b. y && step_of b c)) f (stays mir (λ b. refl) (λ b. refl))
 
-    step_came : (i : ℕ) → refusal_of door s (Step i) ≡ None → Came plan g (stepped door i s) i (λ b. eqb i b) (λ b. eqb i b)
-    step_came i e =
+    -- an accepted step is a step of the machine
+    pub record StepMoves (i : ℕ) : Type 0 where
+      pub lo : 1 ≤ i
+      pub hi : i ≤ s.n
+      pub may : T (may_step (g.arms i))
+      pub mirrors : Mirror plan (stepped door i s) (moved g step i)
+
+    pub step_moves : (i : ℕ) → refusal_of door s (Step i) ≡ None → StepMoves i
+    step_moves i e =
         let r = known_arm s i (step_refusal (phase_at door s i)) e in
         let k : T (may_step (g.arms i)) = subst (λ p. T (not (same_phase p P.I) && not (same_phase p P.F))) (phase_is s g mir i r.0 r.1) (step_none (phase_at door s i) (for_arm_none (is_arm s i) _ e)) in
-        goes step i r.0 (let z = mir.size in let y = r.1 in omega arith) k
-        (tallied_mirror s _ _ (i - 1) (phase_at door s i) (door.phase (arm_after door s i).position) _ _ (moved g step i) (step_mirror s g mir i r.0 r.1 (inv.own i) k)) (λ b. refl) (λ b. refl) refl
+        record {
+          lo = r.0;
+          hi = r.1;
+          may = k;
+          mirrors = tallied_mirror s _ _ (i - 1) (phase_at door s i) (door.phase (arm_after door s i).position) _ _ (moved g step i) (step_mirror s g mir i r.0 r.1 (inv.own i) k);
+        }
+
+    step_came : (i : ℕ) → refusal_of door s (Step i) ≡ None → Came plan g (stepped door i s) i (λ b. eqb i b) (λ b. eqb i b)
+    step_came i e = let x = step_moves i e in goes step i x.lo (let z = mir.size in let y = x.hi in omega arith) x.may x.mirrors (λ b. refl) (λ b. refl) refl
 
     pub came : (c : Call) → Called plan g s c
     came (Begin i) = by_refusal (Begin i) (λ e.

@@ -1,26 +1,34 @@
 -- Right of way and going inside, of any door with a plan.
-use Rattle.std.proofs.Common.{◌≡◌, ℕ, ◌+◌, ◌*◌, ◌≤◌, Bool, not, T, ◌↔◌, ◌⊎◌, inl, List, sym, ap, ◌∙◌, subst, inr, ⊎_elim, arith}
+use Rattle.std.proofs.Common.{◌≡◌, ℕ, ◌+◌, ◌*◌, ◌≤◌, Bool, not, T, ◌↔◌, ◌⊎◌, inl, List, Some, sym, ap, ◌∙◌, subst, inr, ⊎_elim, arith}
 use Rattle.bank.specs.Lent.{Lent}
 use Rattle.door.specs.Table.{Table}
-use Rattle.door.specs.States.{State, made, is_arm}
+use Rattle.door.specs.Phases.{same_phase}
+use Rattle.door.specs.States.{State, made, is_arm, arm_at, phase_at}
 use Rattle.door.specs.Calls.{run, has_way}
 use Rattle.door.specs.History.{is_in, Waits, RightOfWay, bit_read, Rounds, GoesInside}
 use Rattle.door.specs.Law.{ShowsWay}
 use Rattle.door.specs.declared.call.Call.{Call}
+use Rattle.door.specs.declared.phase.Phase.{Phase}
 use Rattle.door.specs.declared.phase.Phase.TheVariants as P
 use Rattle.door.proofs.Bools.{same, same_sym, same_path, test, and_T}
-use Rattle.door.proofs.Accepted.{arm_in}
+use Rattle.door.proofs.Accepted.{arm_in, arm_is}
+use Rattle.door.proofs.Doorways.{reading}
 use Rattle.door.proofs.Runs.{run_n}
+use Rattle.machine.proofs.Machine.{side}
 use Rattle.machine.proofs.Invariant.{Free}
 use Rattle.machine.proofs.Waiting.{Waiting, phase_waits}
-use Rattle.mirror.proofs.Plans.{bit, Plan}
+use Rattle.mirror.proofs.Plans.{bit, as_bit, Plan}
 use Rattle.mirror.proofs.Reached.{Sound, run_sound, start_sound, phase_shown}
-use Rattle.mirror.proofs.BitRead.{read_run, read_side}
+use Rattle.mirror.proofs.Meant.{phased_by, rules_by}
+use Rattle.mirror.proofs.Doorways.{reads_by}
 use Rattle.mirror.proofs.WayTold.{way_free, way_told}
 use Rattle.mirror.proofs.Rounds.{all_go_inside}
 
 bit_once : (x y : Bool) → bit x ≡ bit y → T (same x y)
 bit_once x y e = grind arith
+
+waits_awake : (p : Phase) → T (same_phase p P.W) → T (not (same_phase p P.I))
+waits_awake p h = grind arith
 
 module _ {At : Type 0} {door : Table At} (plan : Plan door) (memory : Lent) (high number wanted : ℕ) (regs : List ℕ) (past : List Call) where
   abbrev start : State At
@@ -51,13 +59,10 @@ module _ {At : Type 0} {door : Table At} (plan : Plan door) (memory : Lent) (hig
     -- the bit that a waiting arm read is its side
     bit_is : (w : ℕ) → 1 ≤ w → w ≤ n → T (is_in door P.W now w) → (sd : Bool) → Waiting sd (sound.machine.arms w) → bit_read door w start past ≡ bit sd
     bit_is w lo hi t sd v =
-        let read = read_run plan w n lo hi past start 0 (record { sound = start_sound plan memory high number wanted regs some; reads = λ t h. absurd h }) in
-        let z = sound.mirror.size in
-        let e = sound.arms_are in
-        let x = read_side plan w n lo hi now (bit_read door w start past) read t in
-        let y = (sound.mirror.shows w lo (omega arith)).sided in
-        let q = v.2 in
-        grind arith
+        let z = sound.arms_are in
+        let size = sound.mirror.size in
+        let sided : (arm_at door now w).side ≡ Some (bit sd) = (sound.mirror.shows w lo (omega arith)).sided ∙ ap (λ a. as_bit (side a)) v.2 in
+        sym ((reading door (phased_by plan) (rules_by plan) (reads_by plan)).side memory high number wanted regs past w (bit sd) (arm_is now w lo (omega arith)) (waits_awake (phase_at door now w) t) sided)
 
     -- two arms with the same side are free to go together; of two with different sides one only
     both_free : (t v : Bool) → T (same t v) → Free sound.machine.group sound.machine.arms t → Free sound.machine.group sound.machine.arms v

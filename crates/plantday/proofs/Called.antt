@@ -2,6 +2,7 @@
 use Rattle.std.proofs.Common.{◌≡◌, ℕ, List, [], ◌∷◌, ◌++◌, sym, ap, ◌∙◌, subst}
 use Rattle.bank.specs.Lent.{Lent}
 use Rattle.door.specs.Calls.{after, run}
+use Rattle.door.specs.Doorways.{ShowsReads}
 use Rattle.door.specs.Law.{Fair, ShowsWay}
 use Rattle.door.specs.Rules.{Phased, ShowsRules, ShowsBits}
 use Rattle.door.specs.States.{State, made}
@@ -22,11 +23,11 @@ module _ {At : Type 0} (door : Table At) where
   joined {s} {t} {u} a b = (a.0 ++ b.0, b.1 ∙ ap (λ x. run door x b.0) a.1 ∙ sym (run_append door a.0 b.0 s))
 
   -- a gate on which only calls were made is fair, and its turns are those of the calls
-  pub fair_after : Phased door → ShowsRules door → ShowsBits door → ShowsWay door → (memory : Lent) (high number wanted : ℕ) (regs : List ℕ) {t : State At}
+  pub fair_after : Phased door → ShowsRules door → ShowsBits door → ShowsWay door → ShowsReads door → (memory : Lent) (high number wanted : ℕ) (regs : List ℕ) {t : State At}
       → Called door (made door memory high number wanted regs) t → FairDay door (made door memory high number wanted regs) t
-  fair_after phased rules bits way memory high number wanted regs {t} a =
+  fair_after phased rules bits way reads memory high number wanted regs {t} a =
       let start = made door memory high number wanted regs in
-      (a.0, a.1, subst (Fair door start a.0) (sym a.1) (fair door phased rules way memory high number wanted regs a.0), subst (TurnsTold door start a.0) (sym a.1) (turns_told door phased rules bits memory high number wanted regs a.0))
+      (a.0, a.1, subst (Fair door start a.0) (sym a.1) (fair door phased rules way reads memory high number wanted regs a.0), subst (TurnsTold door start a.0) (sym a.1) (turns_told door phased rules bits memory high number wanted regs a.0))
 
   -- calls leave the arm count as it is
   pub n_stays : {s t : State At} → Called door s t → t.n ≡ s.n

@@ -1,10 +1,9 @@
 -- A play over another bank that gives the file as many arms comes to the same.
-use Rattle.std.proofs.Common.{◌≡◌, ℕ, ◌+◌, if◌then◌else◌, is_some, List, [], ◌∷◌, ◌++◌, length, Ok, Err, Result, sym, refl, ap, ◌∙◌, subst}
+use Rattle.std.proofs.Common.{◌≡◌, ℕ, ◌+◌, ◌≤◌, if◌then◌else◌, is_some, List, [], ◌∷◌, ◌++◌, length, Ok, Err, Result, sym, refl, ap, ◌∙◌, subst}
 use Rattle.bank.specs.Lent.{Lent}
 use Rattle.door.specs.Accesses.{ShowsAccesses}
 use Rattle.door.specs.Calls.{refusal_of, after, unless}
 use Rattle.door.specs.Making.{arms_for}
-use Rattle.door.specs.Rules.{ShowsBits}
 use Rattle.door.specs.States.{State}
 use Rattle.door.specs.Table.{Table}
 use Rattle.door.specs.declared.call.Call.TheVariants.{Begin as begin, Step as step, Admit as admit, Leave as leave}
@@ -51,41 +50,41 @@ module _ {At : Type 0} (door : Table At) (shown : ShowsAccesses door) where
   count_same s t (o ∷ os) h = λ i. (if is_some (order_same s t o h i) then 1 else 0) + count_same (obeyed door s o) (obeyed door t o) os (obeyed_twins s t o h) i
 
   -- the report
-  text_same : ShowsBits door → (s t : State At) (orders refused : ℕ) → Twins door s t → report_text door t orders refused ≡ report_text door s orders refused
-  text_same bits s t orders refused h =
+  text_same : ((n : ℕ) → 1 ≤ door.room n) → (s t : State At) (orders refused : ℕ) → Twins door s t → report_text door t orders refused ≡ report_text door s orders refused
+  text_same some_room s t orders refused h =
       let n = h.same.n in
       let arms = h.same.arms in
-      let bit = bit_same door bits s t h in
+      let bit = bit_same door some_room s t h in
       let first : first_line t orders refused ≡ first_line s orders refused = cc in
       λ i. first i ++ lines (arm_line door (record s { n = n i; arms = arms i })) (n i)
 
-  play_text_same : ShowsBits door → (lent : Lent) (high : ℕ) (regs : List ℕ) (lent' : Lent) (high' : ℕ) (regs' : List ℕ) (c : Contents)
+  play_text_same : ((n : ℕ) → 1 ≤ door.room n) → (lent : Lent) (high : ℕ) (regs : List ℕ) (lent' : Lent) (high' : ℕ) (regs' : List ℕ) (c : Contents)
       → arms_for door high' (length regs') c.arms ≡ arms_for door high (length regs) c.arms
       → play_text door lent' high' regs' c ≡ play_text door lent high regs c
-  play_text_same bits lent high regs lent' high' regs' c e =
+  play_text_same some_room lent high regs lent' high' regs' c e =
       let made_so = made_twins door lent high 0 c.arms regs lent' high' regs' e in
       let s = start door lent high regs c in
       let t = start door lent' high' regs' c in
       ap (report_text door (end door lent' high' regs' c) (length c.orders)) (count_same s t c.orders made_so)
-      ∙ text_same bits (end door lent high regs c) (end door lent' high' regs' c) (length c.orders) (refusals door s c.orders) (all_twins s t c.orders made_so)
+      ∙ text_same some_room (end door lent high regs c) (end door lent' high' regs' c) (length c.orders) (refusals door s c.orders) (all_twins s t c.orders made_so)
 
-  same_play : ShowsBits door → (lent : Lent) (high : ℕ) (regs : List ℕ) (lent' : Lent) (high' : ℕ) (regs' : List ℕ) (said : Result Contents PlayFault) (memory : List ℕ)
+  same_play : ((n : ℕ) → 1 ≤ door.room n) → (lent : Lent) (high : ℕ) (regs : List ℕ) (lent' : Lent) (high' : ℕ) (regs' : List ℕ) (said : Result Contents PlayFault) (memory : List ℕ)
       → GivesAsMany door high regs high' regs' said
       → IsSamePlay door lent high regs lent' high' regs' said memory (play_answer door lent high regs said) (play_memory door lent high regs memory said)
-  same_play bits lent high regs lent' high' regs' (Ok c) memory e =
-      let text = play_text_same bits lent high regs lent' high' regs' c e in
+  same_play some_room lent high regs lent' high' regs' (Ok c) memory e =
+      let text = play_text_same some_room lent high regs lent' high' regs' c e in
       record {
         answer = ap (λ bytes. Ok (length bytes)) (sym text);
         report = ap (λ bytes. overwritten memory bytes) (sym text);
         refusals = each_same (start door lent high regs c) (start door lent' high' regs' c) c.orders (made_twins door lent high 0 c.arms regs lent' high' regs' e);
       }
-  same_play bits lent high regs lent' high' regs' (Err fault) memory e = record { answer = refl; report = refl; refusals = refl }
+  same_play some_room lent high regs lent' high' regs' (Err fault) memory e = record { answer = refl; report = refl; refusals = refl }
 
   -- of what a play answered and left
-  pub same_elsewhere : ShowsBits door → (lent : Lent) (high : ℕ) (regs file memory : List ℕ) (answer_is : Result ℕ PlayFault) (memory_is : List ℕ)
+  pub same_elsewhere : ((n : ℕ) → 1 ≤ door.room n) → (lent : Lent) (high : ℕ) (regs file memory : List ℕ) (answer_is : Result ℕ PlayFault) (memory_is : List ℕ)
       → answer_is ≡ play_answer door lent high regs (playable file (length memory))
       → memory_is ≡ play_memory door lent high regs memory (playable file (length memory))
       → SameElsewhere door lent high regs file memory answer_is memory_is
-  same_elsewhere bits lent high regs file memory answer_is memory_is answer report lent' high' regs' e =
-      let same = same_play bits lent high regs lent' high' regs' (playable file (length memory)) memory e in
+  same_elsewhere some_room lent high regs file memory answer_is memory_is answer report lent' high' regs' e =
+      let same = same_play some_room lent high regs lent' high' regs' (playable file (length memory)) memory e in
       record { answer = answer ∙ same.answer; report = report ∙ same.report; refusals = same.refusals }

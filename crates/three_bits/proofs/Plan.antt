@@ -2,14 +2,14 @@
 use Rattle.std.proofs.Common.{◌≡◌, ℕ, suc, zero, ◌+◌, ◌-◌, ◌*◌, ◌≤◌, ◌<◌, Bool, false, T, refl, arith}
 use Rattle.machine.specs.Kinds as K
 use Rattle.machine.proofs.Machine.{Stance, idle, d1, d2, d3, d4, d5, waits, inside, x1, x2, phase, choosing, mygroup, flag, step_waiting, outcome, step_arm, turn_step, may_step}
-use Rattle.mirror.proofs.Plans.{bit, number_of, Deed, rest, ask, look, tell, turn, is_ask, is_d2, is_x2, turned_by, told_by, access_for, seen, Plan}
+use Rattle.mirror.proofs.Plans.{bit, number_of, Deed, rest, ask, look, tell, turn, is_ask, is_d2, is_x2, looks_at, turned_by, told_by, access_for, seen, Plan}
 use Rattle.three_bits.specs.declared.position.Doorway.TheVariants.{D1, D2, D3, D4, D5}
 use Rattle.three_bits.specs.declared.position.Place.{Place}
 use Rattle.three_bits.specs.declared.position.Place.TheVariants.{W1, W2, W3, W4, W5, W6}
 use Rattle.three_bits.specs.declared.position.Exit.TheVariants.{X1, X2}
 use Rattle.three_bits.specs.declared.position.ThreeBits.{ThreeBits}
 use Rattle.three_bits.specs.declared.position.ThreeBits.TheVariants.{Idle, Doorway, Waiting, Inside, Leaving}
-use Rattle.three_bits.specs.Positions.{three_bits, phase_of, reads as reads_here, is_turned as turned_here, access_of, next_of, next_place}
+use Rattle.three_bits.specs.Positions.{three_bits, phase_of, reads as reads_here, is_turned as turned_here, index_of, access_of, next_of, next_place}
 
 -- where a stance stands
 abbrev place_of : K.Place → Place
@@ -129,6 +129,7 @@ plan = record {
   at_pass = λ u. refl;
   reads = λ a. (let x : reads_here (place a) ≡ is_d2 a = grind arith in x);
   turned = λ a. (let x : turned_here (place a) ≡ is_x2 a = grind arith in x);
+  indexed = λ a. (let x : index_of (place a) ≡ looks_at a = grind arith in x);
   accesses = accesses;
   leads = leads;
   asks = λ a h. (let x : is_ask (deed a) ≡ is_d2 a = grind arith in x);

@@ -26,7 +26,7 @@ returns g c =
     let met = g.met.D.Door in
     let called = subst (λ s. Called door s c.loop-t.gate) c.make-gate.ensures.made c.loop-t.invariant in
     record {
-      fair = fair_after door met.phased met.rules met.bits met.way (bank.memory c.args.bank) bank.HIGHEST 7 6 (bank.values c.args.bank) called;
+      fair = fair_after door met.phased met.rules met.bits met.way met.reads (bank.memory c.args.bank) bank.HIGHEST 7 6 (bank.values c.args.bank) called;
       turns = looked door c.loop-t.gate 1 c.unwrap.result (sym c.look.ensures.answer ∙ c.unwrap.ensures);
       lent = name_stays door (bank.memory c.args.bank) bank.HIGHEST 7 6 (bank.values c.args.bank) called;
     }

@@ -30,7 +30,7 @@ returns g c =
     record {
       state = e;
       lent = ap (λ s. s.memory.name) e ∙ memory_name door (bank.memory c.args.bank) bank.HIGHEST c.args.number c.args.wanted (bank.values c.args.bank) c.args.calls.now;
-      law = subst (Fair door start c.args.calls.now) (sym e) (fair door met.phased met.rules met.way (bank.memory c.args.bank) bank.HIGHEST c.args.number c.args.wanted (bank.values c.args.bank) c.args.calls.now);
+      law = subst (Fair door start c.args.calls.now) (sym e) (fair door met.phased met.rules met.way met.reads (bank.memory c.args.bank) bank.HIGHEST c.args.number c.args.wanted (bank.values c.args.bank) c.args.calls.now);
       rules = met.rules;
       bound = passing door met.phased met.rules;
       turns = subst (TurnsTold door start c.args.calls.now) (sym e) (turns_told door met.phased met.rules met.bits (bank.memory c.args.bank) bank.HIGHEST c.args.number c.args.wanted (bank.values c.args.bank) c.args.calls.now);

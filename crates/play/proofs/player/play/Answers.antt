@@ -5,4 +5,4 @@ pub returns-clause-elsewhere : goal.returns-clause-elsewhere
 returns-clause-elsewhere g c =
     let met = g.met.D.Door in
     let played = c.perform.ensures in
-    same_elsewhere g.D.Door.table met.accesses met.bits _ _ _ _ _ _ _ played.answer played.report
+    same_elsewhere g.D.Door.table met.accesses met.some_room _ _ _ _ _ _ _ played.answer played.report

@@ -1,4 +1,5 @@
 use Rattle.door.proofs.Turns.{turns_law}
+use Rattle.gate.proofs.Told.{index_told}
 use Rattle.gate.proofs.gate.Gate.look.Goals as goal
 
 pub returns-clause-turns : goal.returns-clause-turns
@@ -6,3 +7,8 @@ returns-clause-turns g c = let door = g.met.D.Door in turns_law g.D.Door.table d
 
 pub returns-in_err-record-clause-turns : goal.returns-in_err-record-clause-turns
 returns-in_err-record-clause-turns g c = let door = g.met.D.Door in turns_law g.D.Door.table door.phased door.rules door.bits c.args.self.now
+
+pub returns-clause-index : goal.returns-clause-index
+returns-clause-index g c =
+    index_told g.D.Door.table g.met.D.Door.indexes c.args.self.now c.record.ensures.gate.reached c.args.arm c.record.result c.in_ok-record.record c.phase.result c.index.result
+    c.record.ensures.record c.in_ok-record.was c.phase.ensures c.index.ensures

@@ -8,7 +8,7 @@ returns-clause-told g c =
     tells_so g.D.Door.table door.phased door.rules door.way c.args.self.now c.args.arm (Ok c.is_free.result) c.waits.ensures.gate.reached (search rules)
 
 pub returns-clause-law : goal.returns-clause-law
-returns-clause-law g c = let door = g.met.D.Door in law g.D.Door.table door.phased door.rules door.way c.args.self.now
+returns-clause-law g c = let door = g.met.D.Door in law g.D.Door.table door.phased door.rules door.way door.reads c.args.self.now
 
 pub returns-in_err-record-clause-law : goal.returns-in_err-record-clause-law
-returns-in_err-record-clause-law g c = let door = g.met.D.Door in law g.D.Door.table door.phased door.rules door.way c.args.self.now
+returns-in_err-record-clause-law g c = let door = g.met.D.Door in law g.D.Door.table door.phased door.rules door.way door.reads c.args.self.now
