@@ -4,6 +4,7 @@ ghost use Rattle.door.specs.declared.call.Call.TheVariants.{Begin, Step};
 ghost use Rattle.door.specs.Accesses.{OneAccess, can_make};
 ghost use Rattle.gate.specs.Answers.{step_answer};
 ghost use Rattle.gate.specs.Gates.{IsGate};
+ghost use Rattle.gate.specs.Passes.{passes_out};
 ghost use Rattle.door.specs.Calls.{answered, refusal_of, after, access_at, arm_after, stepped};
 ghost use Rattle.door.specs.Arms.{advanced};
 ghost use Rattle.door.specs.Phases.{same_phase};
@@ -52,6 +53,7 @@ impl<B: Bank, D: Door> Gate<B, D> {
     pub fn begin(&mut self, arm: usize) -> Result<Phase, Refusal>
         ensures answer { result ≡ answered (refusal_of D.table self.old (Begin arm)) P.D }
         ensures after { self.new ≡ after D.table self.old (Begin arm) }
+        ensures passes { passes_out D.table self.new ≡ passes_out D.table self.old }
     {
         self.may_begin(arm)?;
         let record = &mut self.arms[arm - 1];
@@ -64,6 +66,7 @@ impl<B: Bank, D: Door> Gate<B, D> {
     pub fn step(&mut self, arm: usize) -> Result<Phase, Refusal>
         ensures answer { result ≡ step_answer D.table self.old arm }
         ensures after { self.new ≡ after D.table self.old (Step arm) }
+        ensures passes { passes_out D.table self.new ≡ passes_out D.table self.old }
         ensures one { OneAccess D.table self.old arm self.new }
         ensures made { OnOk result (IsTrue (can_make self.old (access_at D.table self.old arm))) }
     {
