@@ -1,10 +1,14 @@
 -- What a day does, and what full rings lose.
-use Rattle.std.specs.Prelude.{◌≡◌, ℕ, ◌+◌, ◌-◌, ◌^◌, min, if◌then◌else◌, List, length}
+use Rattle.std.specs.Prelude.{◌≡◌, ℕ, zero, suc, ◌+◌, ◌-◌, ◌^◌, min, if◌then◌else◌, List, length, Some, None, Option}
 use Rattle.door.specs.Table.{Table}
 use Rattle.dispatcher.specs.Dispatchers.{Dispatch}
 use Rattle.dispatcher.specs.Law.{moves}
-use Rattle.ring.specs.Rings.{Held}
+use Rattle.dispatcher.specs.Moves.{is_inside, ring_after, served, moved}
+use Rattle.dispatcher.specs.declared.reading.Reading.{Reading}
+use Rattle.ring.specs.Rings.{Held, items, put_in}
 use Rattle.ring.specs.Spans.{has_room}
+use Rattle.dispatchday.specs.Plant.{asked_at, reading_at}
+use Rattle.dispatchday.specs.declared.plant.Lost.{Lost}
 
 -- how many moves a day has
 abbrev pub day_moves : ℕ
@@ -17,3 +21,47 @@ Moved door k d e = (rings : List (List ℕ)) × (length rings ≡ k) × (e ≡ m
 -- the count of lost items once one more is put into a ring: a full one loses it, and the count stops at its highest
 abbrev pub lost_after : {X : Type 0} → Held X → ℕ → ℕ
 lost_after ring lost = if has_room ring.span ring.slots then lost else min (lost + 1) (2 ^ 32 - 1)
+
+abbrev pub nothing_lost : Lost
+nothing_lost = record { arms = 0; readings = 0 }
+
+-- a host at work: its dispatcher, the ring of the arms that are asked for, that of the readings, and what the two lost so far
+pub record Host (At : Type 0) : Type 0 where
+  pub dispatcher : Dispatch At
+  pub asked : Held ℕ
+  pub readings : Held Reading
+  pub lost : Lost
+
+module _ {At : Type 0} where
+  abbrev pub host : Dispatch At → Held ℕ → Held Reading → Lost → Host At
+  host dispatcher asked readings lost = record { dispatcher = dispatcher; asked = asked; readings = readings; lost = lost }
+
+  -- an arm that asks is put into its ring
+  abbrev pub with_ask : Option ℕ → Host At → Host At
+  with_ask None h = h
+  with_ask (Some i) h = record h { asked = put_in i h.asked; lost = record h.lost { arms = lost_after h.asked h.lost.arms } }
+
+  -- a reading is put into the other one
+  abbrev pub with_reading : Reading → Host At → Host At
+  with_reading x h = record h { readings = put_in x h.readings; lost = record h.lost { readings = lost_after h.readings h.lost.readings } }
+
+module _ {At : Type 0} (door : Table At) where
+  -- a move is made, and which arm it serves
+  abbrev pub after_move : Host At → Host At
+  after_move h = record h { dispatcher = moved door h.dispatcher (items h.asked); asked = ring_after door h.dispatcher.gate h.asked }
+
+  abbrev pub arm_served : Host At → ℕ
+  arm_served h = served door h.dispatcher (items h.asked)
+
+  -- where that arm is inside by now, its reading is delivered
+  abbrev pub delivered : ℕ → ℕ → Host At → Host At
+  delivered arm time h = if is_inside door h.dispatcher.gate arm then with_reading (reading_at arm time) h else h
+
+  -- a turn: who asks then is put into the ring, a move is made, and a reading that is due is delivered
+  abbrev pub turned : ℕ → Host At → Host At
+  turned time h = let asked : Host At = with_ask (asked_at time) h in delivered (arm_served asked) time (after_move asked)
+
+  -- the first turns of a day
+  unfoldable pub day_of : ℕ → Host At → Host At
+  day_of zero h = h
+  day_of (suc time) h = turned time (day_of time h)

@@ -1,5 +1,6 @@
 -- What the plant asks for, and what its probes show.
-use Rattle.std.specs.Prelude.{ℕ, ◌+◌, ◌*◌, ◌/◌, ◌%◌, if◌then◌else◌, Some, None, Option, ◌==◌}
+use Rattle.std.specs.Prelude.{ℕ, ◌+◌, ◌*◌, ◌/◌, ◌%◌, if◌then◌else◌, Some, None, Option, ◌==◌, pos, ◌-ℤ◌}
+use Rattle.dispatcher.specs.declared.reading.Reading.{Reading}
 
 -- the arm that asks at a time, every twelfth move: 1 to 7 in turn
 abbrev pub asked_at : ℕ → Option ℕ
@@ -8,3 +9,7 @@ asked_at time = if time % 12 == 0 then Some (time / 12 % 7 + 1) else None
 -- tenths of a degree above -20.0 that an arm's probe shows at a time
 abbrev pub shown_at : ℕ → ℕ → ℕ
 shown_at arm time = (arm % 32 * 137 + time % 1000 * 29) % 1000
+
+-- the reading of an arm then
+abbrev pub reading_at : ℕ → ℕ → Reading
+reading_at arm time = record { arm = arm; tenths = pos (shown_at arm time) -ℤ pos 200 }

@@ -1,6 +1,6 @@
 ghost use Rattle.std.specs.Prelude.{◌≡◌};
 ghost use Rattle.dispatcher.specs.Moves.{is_inside};
-ghost use Rattle.dispatchday.specs.Day.{Moved, day_moves};
+ghost use Rattle.dispatchday.specs.Day.{Moved, day_moves, host, nothing_lost, day_of};
 
 use crate::plant::{Lost, MOVES, NOTHING_LOST, asks, measure, put_or_lose};
 use bank::Bank;
@@ -15,7 +15,9 @@ pub fn day<B: Bank, D: Door>(
     asked: &mut Ring<usize>,
     readings: &mut Ring<Reading>,
 ) -> Lost
-    ensures { Moved D.table day_moves dispatcher.old dispatcher.new }
+    ensures moves { Moved D.table day_moves dispatcher.old dispatcher.new }
+    ensures day { host dispatcher.new asked.new readings.new result
+        ≡ day_of D.table day_moves (host dispatcher.old asked.old readings.old nothing_lost) }
 {
     let mut lost = NOTHING_LOST;
     for time in 0..MOVES {

@@ -3,6 +3,8 @@ mod Spent
 mod Busy
 -- who is next
 mod Order
+-- an arm that goes inside in a move is inside after it
+mod Seen
 -- a move serves an arm, n moves serve all, and so a waiting arm goes inside
 mod Served
 -- the calls of a move, put together

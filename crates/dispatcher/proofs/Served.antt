@@ -21,6 +21,7 @@ use Rattle.dispatcher.specs.Moves.{opening, is_busy, is_inside, in_turn, serving
 use Rattle.dispatcher.specs.Law.{moves, calls_of_moves, OnlyCalls, AllServed, InsideByMoves, LawOfMoves}
 use Rattle.dispatcher.proofs.Spent.{opening_spent, serving_spent}
 use Rattle.dispatcher.proofs.Busy.{busy_after, moves_left, moves_right}
+use Rattle.dispatcher.proofs.Seen.{seen_inside}
 use Rattle.dispatcher.proofs.Order.{ahead, found_yes, in_line_found, ahead_few}
 
 last_within : (r : Option ℕ) (last n : ℕ) → last ≤ n → ((i : ℕ) → r ≡ Some i → i ≤ n) → last_after last r ≤ n
@@ -151,4 +152,4 @@ module _ {At : Type 0} (door : Table At) where
     inside w wait rings e = all_inside door phased rules way d.gate ready.reached w wait (calls_of_moves door d rings) (in_rounds (50 * d.gate.n + 10) d rings ready e)
 
     pub law_of_moves : LawOfMoves door d
-    law_of_moves = record { calls = only_calls d; served = all_served d ready; inside = inside }
+    law_of_moves = record { calls = only_calls d; served = all_served d ready; inside = inside; seen = λ w wait rings e. seen_inside door w rings d (inside w wait rings e) }

@@ -1,9 +1,10 @@
 -- What a dispatcher's moves do for its arms, whatever each move is asked for.
-use Rattle.std.specs.Prelude.{◌≡◌, ℕ, ◌+◌, ◌*◌, List, [], ◌∷◌, ◌++◌, length}
+use Rattle.std.specs.Prelude.{◌≡◌, ℕ, ◌+◌, ◌*◌, T, List, [], ◌∷◌, ◌++◌, length}
 use Rattle.door.specs.Calls.{run}
-use Rattle.door.specs.History.{Waits, GoesInside, Round}
+use Rattle.door.specs.History.{is_in, Waits, GoesInside, Round}
 use Rattle.door.specs.Table.{Table}
 use Rattle.door.specs.declared.call.Call.{Call}
+use Rattle.door.specs.declared.phase.Phase.TheVariants as P
 use Rattle.dispatcher.specs.Dispatchers.{Dispatch}
 use Rattle.dispatcher.specs.Moves.{calls_of, moved}
 
@@ -31,8 +32,17 @@ module _ {At : Type 0} (door : Table At) where
   InsideByMoves d = (w : ℕ) → Waits door d.gate w → (rings : List (List ℕ)) → length rings ≡ d.gate.n * (50 * d.gate.n + 10)
       → GoesInside door w d.gate (calls_of_moves d rings)
 
+  -- arm w is inside once some of these moves are made, as the gate then stands
+  abbrev pub SeenInside : ℕ → Dispatch At → List (List ℕ) → Type 0
+  SeenInside w d rings = (first : List (List ℕ)) × (rest : List (List ℕ)) × (rings ≡ first ++ rest) × T (is_in door P.F (moves d first).gate w)
+
+  -- so a waiting arm is seen inside after one of the next n (50 n + 10) moves
+  abbrev pub SeenByMoves : Dispatch At → Type 0
+  SeenByMoves d = (w : ℕ) → Waits door d.gate w → (rings : List (List ℕ)) → length rings ≡ d.gate.n * (50 * d.gate.n + 10) → SeenInside w d rings
+
 -- the law of moves, of any dispatcher in hand
 pub record LawOfMoves {At : Type 0} (door : Table At) (d : Dispatch At) : Type 0 where
   pub calls : OnlyCalls door d
   pub served : AllServed door d
   pub inside : InsideByMoves door d
+  pub seen : SeenByMoves door d

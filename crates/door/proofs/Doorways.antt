@@ -4,6 +4,7 @@ use Rattle.std.proofs.lemmas.Bool.{cases_eq, ne_eqb}
 use Rattle.std.proofs.lemmas.Bool.Decides.{nat_tests}
 use lib.Dec.{eqb_refl}
 use Rattle.std.proofs.lemmas.List.{length-replicate, get_or-set_same, get_or-set_other}
+use Rattle.bank.specs.Lent.{Lent}
 use Rattle.door.specs.Limits.{arm_limit}
 use Rattle.door.specs.Phases.{same_phase}
 use Rattle.door.specs.Registers.{group, value_read}
@@ -214,7 +215,7 @@ module _ {At : Type 0} (door : Table At) (phased : Phased door) where
       told_run w lo cs (after door s c) (let n = after_n door s c in omega arith) (let n = after_n door s c in let l = after_length door s c in omega arith)
       (λ past d. ruled (c ∷ past) d) (λ past i. reads (c ∷ past) i) _ _ (next w lo s hi table k v h (ruled []) reads c)
 
-module _ {At : Type 0} (door : Table At) (phased : Phased door) (rules : ShowsRules door) (reads : ShowsReads door) (memory high number wanted : ℕ) (regs : List ℕ) (past : List Call) where
+module _ {At : Type 0} (door : Table At) (phased : Phased door) (rules : ShowsRules door) (reads : ShowsReads door) (memory : Lent) (high number wanted : ℕ) (regs : List ℕ) (past : List Call) where
   abbrev start : State At
   start = made door memory high number wanted regs
 

@@ -1,5 +1,6 @@
 -- A door with a plan reads the bit exactly once in each doorway, and an arm's index is one of the n while it waits.
 use Rattle.std.proofs.Common.{◌≡◌, ℕ, ◌≤◌, Bool, T, List, None, Option, sym, refl, ap, ◌∙◌, subst, arith}
+use Rattle.bank.specs.Lent.{Lent}
 use Rattle.door.specs.Calls.{refusal_of, step_refusal, access_at, stepped, after, unless, run}
 use Rattle.door.specs.Doorways.{gets_side, ReadsAsTold, ShowsReads}
 use Rattle.door.specs.History.{no_refusal, of_group, is_in}
@@ -62,7 +63,7 @@ module _ {At : Type 0} {door : Table At} (plan : Plan door) where
       rw (phase_is s g h.mirror i lo hi, ap door.index (h.mirror.shows i lo hi).stands ∙ plan.indexed (g.arms i))
       (index_fits s.n g.n g.group g.arms (g.arms i) h.arms_are (h.keeps.own i))
 
-  module _ (memory high number wanted : ℕ) (regs : List ℕ) (past : List Call) where
+  module _ (memory : Lent) (high number wanted : ℕ) (regs : List ℕ) (past : List Call) where
     abbrev start : State At
     start = made door memory high number wanted regs
 

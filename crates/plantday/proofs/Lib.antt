@@ -1,3 +1,4 @@
 mod Called
 mod Filled
 mod Noted
+mod Turned

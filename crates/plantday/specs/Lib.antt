@@ -1,3 +1,4 @@
 pub mod Dice
 pub mod Records
 pub mod Day
+pub mod Turns

@@ -11,6 +11,7 @@ ghost use Rattle.door.specs.States.{made};
 ghost use Rattle.door.specs.declared.call.Call.TheVariants.{Admit};
 ghost use Rattle.plantday.specs.Day.{Called, FairDay, HoldsFairDay};
 ghost use Rattle.plantday.specs.Records.{plant_arms, with_leave, noted};
+ghost use Rattle.plantday.specs.Turns.{plant, picked, dice_after_pick, let_go, turned, day_of, notes_of_day};
 
 mod dice;
 mod record;
@@ -47,7 +48,9 @@ type Kind<'a, D> = PhantomData<Gate<ByteBank<&'a mut [u8]>, D>>;
 
 // Two arms get seven turns of ten, and the last one hardly any.
 fn pick(dice: &mut Dice) -> usize
-    ensures { result < plant_arms }
+    ensures arm { result ≡ picked dice.old.state }
+    ensures dice { dice.new.state ≡ dice_after_pick dice.old.state }
+    ensures below { result < plant_arms }
 {
     if dice.roll(10) < 7 {
         dice.roll(2)
@@ -63,6 +66,7 @@ fn deliver<B: Bank, D: Door>(gate: &mut Gate<B, D>, k: usize, record: &mut Recor
     requires arm { k < plant_arms }
     requires inside { refusal_of D.table gate.old (Admit (k + 1)) ≡ None }
     ensures calls { Called D.table gate.old gate.new }
+    ensures gate { gate.new ≡ let_go D.table gate.old k }
     ensures noted { «record».new ≡ with_leave D.table gate.new k «record».old }
 {
     let pass = gate.admit(k + 1).unwrap();
@@ -91,7 +95,9 @@ fn note<B: Bank, D: Door>(gate: &Gate<B, D>, k: usize, from: Phase, to: Phase, r
 fn turn<B: Bank, D: Door>(gate: &mut Gate<B, D>, k: usize, dice: &mut Dice, record: &mut Record)
     requires arm { k < plant_arms }
     requires arms { gate.old.n ≡ plant_arms }
-    ensures { Called D.table gate.old gate.new }
+    ensures calls { Called D.table gate.old gate.new }
+    ensures turn { plant gate.new dice.new.state «record».new
+        ≡ turned D.table k (plant gate.old dice.old.state «record».old) }
 {
     let arm = k + 1;
     let view = gate.look(arm).unwrap();
@@ -118,6 +124,8 @@ fn whole_day<B: Bank, D: Door>(bank: B, record: &mut Record) -> Gate<B, D>
     requires { arms_for D.table B.HIGHEST (length (B.values bank)) plant_arms ≡ plant_arms }
     ensures fair { FairDay D.table (made D.table (B.memory bank) B.HIGHEST 7 plant_arms (B.values bank)) result }
     ensures turns { «record».new.turns ≡ result.turns }
+    ensures day { result ≡ (day_of D.table (made D.table (B.memory bank) B.HIGHEST 7 plant_arms (B.values bank)) «record».old).gate }
+    ensures noted { «record».new ≡ notes_of_day D.table (made D.table (B.memory bank) B.HIGHEST 7 plant_arms (B.values bank)) «record».old }
     ensures lent { result.memory.name ≡ (B.memory bank).name }
 {
     let mut gate = Gate::<B, D>::make(bank, NUMBER, ARMS);

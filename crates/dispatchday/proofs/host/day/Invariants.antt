@@ -1,6 +1,13 @@
-use Rattle.dispatchday.specs.Day.{Moved}
+use Rattle.std.proofs.Common.{◌≡◌}
+use Rattle.dispatchday.specs.Day.{Moved, host, nothing_lost, day_of}
 use Rattle.dispatchday.proofs.host.day.Given as goal
 
--- a move was made at each time so far
+-- a move was made at each time so far, in a turn of the day
 abbrev pub invariant-loop-time : goal.invariant-loop-time
-invariant-loop-time g l = Moved g.D.Door.table l.time l.initial.dispatcher l.dispatcher
+invariant-loop-time g l =
+    let door = g.D.Door.table in
+    let start = l.initial in
+    record {
+      moves : Moved door l.time start.dispatcher l.dispatcher;
+      day : host l.dispatcher l.asked l.readings l.lost ≡ day_of door l.time (host start.dispatcher start.asked start.readings nothing_lost);
+    }
