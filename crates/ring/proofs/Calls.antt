@@ -1,11 +1,9 @@
 -- What the calls do to the items, where they lie within their memory.
-use Rattle.std.proofs.Common.{◌≡◌, ℕ, suc, ◌+◌, ◌-◌, ◌<◌, ◌≤◌, true, false, cond, List, [], ◌∷◌, ◌++◌, length, get_or, set, drop, Some, None, Ok, Err, sym, ap, ap₂, ◌∙◌, inl, inr, slice_get, arith}
+use Rattle.std.proofs.Common.{◌≡◌, ℕ, suc, ◌+◌, ◌-◌, ◌<◌, ◌≤◌, true, false, cond, List, [], ◌∷◌, ◌++◌, length, get_or, set, drop, Some, None, sym, ap, ap₂, ◌∙◌, inl, inr, slice_get, arith}
 use Rattle.std.proofs.lemmas.List.{get_or_default}
 use Rattle.std.proofs.lemmas.Bool.{cases_lt, cond-true, cond-false}
 use Rattle.std.proofs.lemmas.Bool.Decides.{nat_tests}
 use Rattle.ring.specs.Spans.{Fits, laid, place, has_room, put_span, put_slots, taken_span}
-use Rattle.ring.specs.Refusals.{put_answer}
-use Rattle.ring.specs.declared.refusal.Refusal.TheVariants.{RingFull}
 use Rattle.ring.specs.declared.span.Span.{Span}
 use Rattle.ring.proofs.Laid.{length-laid, one_more, one_fewer, round, none-laid}
 
@@ -32,13 +30,10 @@ module _ {X : Type 0} (s : Span) (slots : List X) (fits : Fits s (length slots))
     no_room : has_room s slots ≡ false
     no_room = let e = count_is in grind (arith, nat_tests)
 
-    pub full_answer : Err RingFull ≡ put_answer s slots
-    full_answer = sym (cond-false _ (Ok tt) (Err RingFull) no_room)
-
-    pub full_span : s ≡ put_span s slots
+    full_span : s ≡ put_span s slots
     full_span = sym (cond-false _ (record s { count = s.count + 1 }) s no_room)
 
-    pub full_slots : (x : X) → slots ≡ put_slots x s slots
+    full_slots : (x : X) → slots ≡ put_slots x s slots
     full_slots x = sym (cond-false _ (set slots (place s s.count size) x) slots no_room)
 
   -- one that another item fits into
@@ -46,13 +41,10 @@ module _ {X : Type 0} (s : Span) (slots : List X) (fits : Fits s (length slots))
     room : has_room s slots ≡ true
     room = let e = count_is in grind (arith, nat_tests)
 
-    pub room_answer : Ok tt ≡ put_answer s slots
-    room_answer = sym (cond-true _ (Ok tt) (Err RingFull) room)
-
-    pub room_span : record s { count = s.count + 1 } ≡ put_span s slots
+    room_span : record s { count = s.count + 1 } ≡ put_span s slots
     room_span = sym (cond-true _ (record s { count = s.count + 1 }) s room)
 
-    pub room_slots : (x : X) → set slots (place s s.count size) x ≡ put_slots x s slots
+    room_slots : (x : X) → set slots (place s s.count size) x ≡ put_slots x s slots
     room_slots x = sym (cond-true _ (set slots (place s s.count size) x) slots room)
 
     room_items : (x : X) → laid (record s { count = s.count + 1 }) (set slots (place s s.count size) x) ≡ laid s slots ++ x ∷ []

@@ -40,6 +40,7 @@ impl<'a, T: Copy> Ring<'a, T> {
     }
 
     /// How many items there are.
+    #[tactic(auto, using(crate::proofs::Calls::count_is))]
     pub fn len(&self) -> usize
         ensures { result ≡ length (items self.now) }
     {

@@ -28,6 +28,7 @@ impl Span {
     }
 
     // The first item. None where there is none.
+    #[tactic(auto, using(crate::proofs::Calls::none_first, crate::proofs::Calls::some_first))]
     pub(crate) fn first<T: Copy>(self, memory: &[T]) -> Option<T>
         requires { Fits self (length memory.now) }
         ensures { result ≡ slice_get (laid self memory.now) 0 }
@@ -39,6 +40,7 @@ impl Span {
     }
 
     // Puts an item behind the others. Refuses where the memory is full.
+    #[tactic(auto, using(crate::proofs::Calls::count_is))]
     pub(crate) fn put<T: Copy>(&mut self, memory: &mut [T], item: T) -> Result<(), Refusal>
         requires { Fits self.old (length memory.old) }
         ensures answer { result ≡ put_answer self.old memory.old }
