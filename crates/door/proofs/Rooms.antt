@@ -3,7 +3,6 @@ use Rattle.std.proofs.Common.{◌≡◌, ℕ, zero, suc, ◌+◌, ◌-◌, ◌<�
 use Rattle.std.proofs.Math.Seq.{set-append_seam}
 use Rattle.std.proofs.lemmas.List.FromFn.{length-map-range_with_len, map-range_with_len_more}
 use Rattle.std.specs.List.{range_with_len}
-use Rattle.std.proofs.lemmas.Bool.{le-leb}
 use Rattle.std.proofs.lemmas.Bool.Decides.{nat_tests}
 use Rattle.bank.specs.Lent.{Lent, touched}
 use Rattle.bank.specs.Registers.{written}
@@ -45,13 +44,6 @@ module _ {At : Type 0} (door : Table At) where
 
   pub arms_fit : (high len wanted : ℕ) → 0 < arms_for door high len wanted → (door.room (arms_for door high len wanted) ≤ len) × (door.needed ≤ high)
   arms_fit high len wanted h = let f = largest_fits len (min wanted arm_limit) in grind (arith, nat_tests)
-
-  -- all arms that are wanted, where there is room for them
-  pub arms_whole : (high len n : ℕ) → 1 ≤ n → n ≤ arm_limit → door.needed ≤ high → door.room n ≤ len → arms_for door high len n ≡ n
-  arms_whole high len n some few bits room =
-      let here = largest_here len n some (le-leb (door.room n) len room) in
-      let least : min n arm_limit ≡ n = omega arith in
-      grind (arith, nat_tests, ap (largest door len) least)
 
   -- no larger count has room
   largest_over : (len k j : ℕ) → largest door len k < j → j ≤ k → len < door.room j

@@ -1,9 +1,7 @@
 -- What no call alters.
-use Rattle.std.proofs.Common.{◌≡◌, ℕ, zero, suc, ◌-◌, ◌≤◌, List, [], ◌∷◌, length, set, sym, refl, ap, ◌∙◌, arith}
+use Rattle.std.proofs.Common.{◌≡◌, ℕ, zero, suc, ◌-◌, List, [], ◌∷◌, length, set, refl, ◌∙◌, arith}
 use Rattle.std.proofs.lemmas.List.{length-set}
 use Rattle.bank.specs.Lent.{Lent}
-use Rattle.door.specs.Law.{Origin}
-use Rattle.door.specs.Limits.{arm_limit}
 use Rattle.door.specs.Making.{arms_for, cleared_memory, made_memory}
 use Rattle.door.specs.Registers.{regs_after}
 use Rattle.door.specs.Table.{Table}
@@ -13,7 +11,6 @@ use Rattle.door.specs.declared.access.Access.{Access}
 use Rattle.door.specs.declared.call.Call.{Call}
 use Rattle.door.specs.declared.call.Call.TheVariants.{Begin, Step, Admit, Leave}
 use Rattle.door.proofs.Accepted.{unless_both}
-use Rattle.door.proofs.Rooms.{arms_few}
 use Rattle.door.proofs.Seen.{tallied_table}
 
 module _ {At : Type 0} (door : Table At) where
@@ -24,12 +21,6 @@ module _ {At : Type 0} (door : Table At) where
   pub run_n : (cs : List Call) (s : State At) → (run door s cs).n ≡ s.n
   run_n [] s = refl
   run_n (c ∷ cs) s = run_n cs (after door s c) ∙ after_n s c
-
-  -- so there are no more than the limit
-  pub few_arms : (s : State At) → Origin door s → s.n ≤ arm_limit
-  few_arms s p =
-      let size : s.n ≡ arms_for door p.high (length p.regs) p.wanted = sym (ap (λ t. t.n) p.leads) ∙ run_n p.calls _ in
-      omega (arith, arms_few door p.high (length p.regs) p.wanted)
 
   -- nor how high the registers go
   pub run_high : (cs : List Call) (s : State At) → (run door s cs).high ≡ s.high
