@@ -5,6 +5,7 @@ Which call is accepted comes from the simulation of a gate of either door in pla
 of positions and from the words of docs/GATE.md; nothing is shared with the crates. Usage: python3 tools/access_counts.py
 """
 import os
+from collections import deque
 
 from plant_files import ARM_LIMIT, FourValuedGate, Gate
 
@@ -14,6 +15,11 @@ KINDS = ("begin", "step", "admit", "confirm", "leave", "look", "tally", "most_pa
 
 TURNS = 20000
 MORE_TURNS = 60000
+LISTED_TURNS = 6000
+
+# How many arms wait to be begun at most; of so many moves the first ones are those at which an arm asks.
+ASKED = 24
+MOVES_A_BURST, ASKS_A_BURST = 2048, 16
 
 # The registers of the most arms at the three-bit door.
 REGISTERS = 3 * ARM_LIMIT + 1
@@ -213,14 +219,97 @@ def making(door, registers, wanted):
     return "registers %d wanted %d arms %d: making accepted %s; refused 0\n" % (registers, wanted, n, cost)
 
 
+def line(costs):
+    """What several accesses cost as one call."""
+    cost = Cost()
+    cost.add(sum(reads for reads, _ in costs), sum(writes for _, writes in costs))
+    return cost
+
+
+def access(gate, arm):
+    """What the next step of an arm accesses: reads and writes."""
+    return (0, 1) if gate.at[arm] in gate.WRITING else (1, 0)
+
+
+def moves(door, n, count):
+    """Moves of a dispatcher, by the words of docs/HOSTS.md: what each makes of its gate, and what it costs."""
+    gate, asked, last = door(n), deque(), 0
+    step, let_go, idle, nothing = Cost(), Cost(), Cost(), Cost()
+    for t in range(count):
+        if t % MOVES_A_BURST < ASKS_A_BURST and len(asked) < ASKED:
+            asked.append(arm_of(t, n + 1))
+        if asked:
+            head = asked[0]
+            if not 1 <= head <= n or gate.phase(head) == "I":
+                gate.begin(head)
+                asked.popleft()
+        turn = [*range(last + 1, n + 1), *range(1, last + 1)]
+        served = next((arm for arm in turn if gate.phase(arm) != "I"), 0)
+        if served == 0:
+            idle.add(0, 0)
+            continue
+        last = served
+        if gate.phase(served) == "F":
+            gate.leave(served)
+            let_go.add(0, 0)
+        else:
+            step.add(*access(gate, served))
+            gate.step(served)
+    nothing.add(0, 0)
+    return ("arms %d moves %d\na step: %s\nan arm let go: %s\nall idle: %s\nstop: %s\ninto_bank: %s\n"
+            % (n, count, step, let_go, idle, nothing, nothing))
+
+
+def made(door, n):
+    """What making n arms costs where the registers of more are there."""
+    return (1, door.room(n))
+
+
+def carried(door, n, turns):
+    """A list of calls that is carried out: making, one access a step, and a read each time that way tells."""
+    gate, out, count, costs = door(n), set(), 0, [made(door, n)]
+    for t in range(turns):
+        arm = arm_of(t, n)
+        count += 8
+        gate.begin(arm)
+        if gate.phase(arm) not in "IF":
+            costs.append(access(gate, arm))
+            gate.step(arm)
+        if gate.phase(arm) == "W":
+            costs.append((1, 0))
+        if gate.phase(arm) == "F" and arm not in out:
+            out.add(arm)
+        if arm in out:
+            out.remove(arm)
+            gate.leave(arm)
+    return "carry_out of %d calls: %s\n" % (count, line(costs))
+
+
+def played(door, n, turns):
+    """A play: making, one access a step, and the bit, which the report tells."""
+    gate, count, costs = door(n), 0, [made(door, n), (1, 0)]
+    for t in range(turns):
+        arm = arm_of(t, n)
+        count += 3
+        gate.begin(arm)
+        if gate.phase(arm) not in "IF":
+            costs.append(access(gate, arm))
+            gate.step(arm)
+        if gate.phase(arm) == "F":
+            gate.leave(arm)
+    return "play of %d orders: %s\n" % (count, line(costs))
+
+
 def runs(door, makings):
     text = "".join(making(door, registers, wanted) for registers, wanted in makings)
     watched = Watched(door, 0)
     watch(watched, 1, 1)
     text += "no arms\n%s" % watched.book
-    for n, turns in ((1, TURNS), (3, TURNS), (32, TURNS), (ARM_LIMIT, MORE_TURNS)):
+    for n, turns in ((1, TURNS), (3, TURNS), (7, TURNS), (32, TURNS), (77, TURNS), (ARM_LIMIT, MORE_TURNS)):
         text += "arms %d turns %d\n%s" % (n, turns, lively(door, n, turns))
         text += "arms %d turns %d with calls that are refused\n%s" % (n, turns, refused(door, n, turns))
+    for n in (1, 3, 7, 32, 77, ARM_LIMIT):
+        text += moves(door, n, TURNS) + carried(door, n, LISTED_TURNS) + played(door, n, LISTED_TURNS)
     return text
 
 

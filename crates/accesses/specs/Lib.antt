@@ -1,2 +1,3 @@
 pub mod Costs
 pub mod Runs
+pub mod Moves

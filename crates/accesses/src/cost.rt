@@ -47,7 +47,7 @@ impl Cost {
     }
 
     // One call more, which made so many accesses.
-    fn add(&mut self, count: Count)
+    pub fn add(&mut self, count: Count)
         ensures { self.new ≡ with_call count self.old }
     {
         let all = count.reads.saturating_add(count.writes);

@@ -12,10 +12,14 @@ ghost use Rattle.accesses.specs.Runs.{register_count};
 
 mod cost;
 mod counting_bank;
+mod lists;
+mod moves;
 mod runs;
 mod watched;
 
 use crate::counting_bank::{Accesses, CountingBank};
+use crate::lists::{ListedKind, show_carried, show_played};
+use crate::moves::{MoveBook, WatchedDispatcher, make_moves};
 use crate::runs::{lively, refused, watch};
 use crate::watched::{Book, Watched};
 use bank::BitBank;
@@ -38,6 +42,9 @@ const TURNS: u64 = 20_000;
 
 const MORE_TURNS: u64 = 60_000;
 
+// How many turns a list of calls or orders has.
+const LISTED_TURNS: u64 = 6_000;
+
 // The makings that are watched, by registers and wanted arms, and one more at the four-valued door, where 3 registers have room for two arms.
 const MAKINGS: [(usize, usize); 6] = [
     (REGISTERS, 1),
@@ -53,6 +60,9 @@ const MAKING_FOUR_VALUED: (usize, usize) = (1, ARM_LIMIT);
 // The kind of gate that is watched. Where the door is left open, a function that makes such a gate names its kind in its header,
 // since nothing else says that it is not larger than memory.
 type Kind<D> = PhantomData<Watched<D>>;
+
+// The kind of dispatcher that is watched, likewise.
+type MovedKind<D> = PhantomData<WatchedDispatcher<D>>;
 
 // Makes a gate over so many registers.
 fn gate_over<D: Door>(
@@ -157,27 +167,89 @@ fn show_runs<D: Door>(
     show(rt, gate.book())
 }
 
+// What the moves of a dispatcher cost, and its end.
+fn show_moves<D: Door>(
+    rt: &HostRuntime,
+    arms: usize,
+    moves: u64,
+    _kind: MovedKind<D>,
+) -> anyhow::Result<()> {
+    let accesses = Rc::new(rt.alloc(), Accesses::none())?;
+    let bank = CountingBank::new(vec![in rt.alloc(); 9; REGISTERS]?, accesses.clone()?);
+    let mut dispatcher = WatchedDispatcher::<D>::new(bank, accesses, NUMBER, arms);
+    make_moves(&mut dispatcher, moves);
+    let MoveBook {
+        step,
+        let_go,
+        idle,
+        stop,
+        into_bank,
+    } = dispatcher.end();
+    println!(rt; "arms {arms} moves {moves}")?;
+    println!(rt; "a step: {step}")?;
+    println!(rt; "an arm let go: {let_go}")?;
+    println!(rt; "all idle: {idle}")?;
+    println!(rt; "stop: {stop}")?;
+    println!(rt; "into_bank: {into_bank}")?;
+    Ok(())
+}
+
 // What all calls cost through one door.
 fn show_door<D: Door>(rt: &HostRuntime, kind: Kind<D>) -> anyhow::Result<()>
     requires one { arms_for D.table 255 register_count 1 ≡ 1 }
     requires three { arms_for D.table 255 register_count 3 ≡ 3 }
+    requires seven { arms_for D.table 255 register_count 7 ≡ 7 }
     requires many { arms_for D.table 255 register_count 32 ≡ 32 }
+    requires more { arms_for D.table 255 register_count 77 ≡ 77 }
     requires most { arms_for D.table 255 register_count arm_limit ≡ arm_limit }
 {
     show_no_arms(rt, kind)?;
     show_runs(rt, 1, TURNS, kind)?;
     show_runs(rt, 3, TURNS, kind)?;
+    show_runs(rt, 7, TURNS, kind)?;
     show_runs(rt, 32, TURNS, kind)?;
+    show_runs(rt, 77, TURNS, kind)?;
     show_runs(rt, ARM_LIMIT, MORE_TURNS, kind)
+}
+
+// What those cost that have a gate of their own, of so many arms: a dispatcher, a list of calls that is carried out, and a play.
+fn show_owned<D: Door>(
+    rt: &HostRuntime,
+    arms: usize,
+    moved: MovedKind<D>,
+    listed: ListedKind<D>,
+) -> anyhow::Result<()>
+    requires some { 1 ≤ arms }
+    requires few { arms ≤ arm_limit }
+{
+    show_moves(rt, arms, TURNS, moved)?;
+    show_carried(rt, arms, LISTED_TURNS, listed)?;
+    show_played(rt, arms, LISTED_TURNS, listed)
+}
+
+// What they cost through one door.
+fn show_owners<D: Door>(
+    rt: &HostRuntime,
+    moved: MovedKind<D>,
+    listed: ListedKind<D>,
+) -> anyhow::Result<()> {
+    show_owned(rt, 1, moved, listed)?;
+    show_owned(rt, 3, moved, listed)?;
+    show_owned(rt, 7, moved, listed)?;
+    show_owned(rt, 32, moved, listed)?;
+    show_owned(rt, 77, moved, listed)?;
+    show_owned(rt, ARM_LIMIT, moved, listed)
 }
 
 #[tactic(auto, unfolding(door::specs::Making::largest))]
 fn main(rt: HostRuntime) -> anyhow::Result<()> {
     show_makings::<ThreeBits>(&rt, PhantomData)?;
     show_door::<ThreeBits>(&rt, PhantomData)?;
+    show_owners::<ThreeBits>(&rt, PhantomData, PhantomData)?;
     println!(rt; "through the four-valued door")?;
     show_makings::<FourValued>(&rt, PhantomData)?;
     let (registers, wanted) = MAKING_FOUR_VALUED;
     show_making::<FourValued>(&rt, registers, wanted, PhantomData)?;
-    show_door::<FourValued>(&rt, PhantomData)
+    show_door::<FourValued>(&rt, PhantomData)?;
+    show_owners::<FourValued>(&rt, PhantomData, PhantomData)
 }

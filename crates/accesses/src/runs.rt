@@ -15,7 +15,7 @@ use gate::{Gate, HandedBack};
 const SPREAD: u64 = 0x9e37_79b9_7f4a_7c15;
 
 // The arm whose turn it is, of n arms.
-fn arm_of(turn: u64, n: usize) -> usize
+pub(crate) fn arm_of(turn: u64, n: usize) -> usize
     requires { 1 ≤ n }
     ensures arm { result ≡ arm_of turn n }
     ensures low { 1 ≤ result }
