@@ -1,3 +1,4 @@
+use Rattle.std.proofs.Common.{rules}
 use Rattle.door.proofs.Turns.{turns_law}
 use Rattle.gate.proofs.Told.{index_told}
 use Rattle.gate.proofs.gate.Gate.look.Goals as goal
@@ -10,5 +11,5 @@ returns-in_err-record-clause-turns g c = let door = g.met.D.Door in turns_law g.
 
 pub returns-clause-index : goal.returns-clause-index
 returns-clause-index g c =
-    index_told g.D.Door.table g.met.D.Door.indexes c.args.self.now c.record.ensures.gate.reached c.args.arm c.record.result c.in_ok-record.record c.phase.result c.index.result
-    c.record.ensures.record c.in_ok-record.was c.phase.ensures c.index.ensures
+    index_told g.D.Door.table g.met.D.Door.indexes c.args.self.now c.record.ensures.gate.reached c.args.arm c.record.result c.in_ok-record.record _ _
+    c.record.ensures.record c.in_ok-record.was (search rules) (search rules)
