@@ -1,10 +1,10 @@
 -- What each call makes of the passes that are out.
-use Rattle.std.proofs.Common.{◌≡◌, ◌≢◌, ℕ, ◌-◌, ◌≤◌, Bool, true, false, not, ◌&&◌, ◌||◌, T, eqb, leb, List, length, get_or, set, None, Some, Ok, Err, Option, Result, refl, sym, ap, ◌∙◌, subst, ⊎_elim, arith}
+use Rattle.std.proofs.Common.{◌≡◌, ℕ, ◌-◌, ◌≤◌, Bool, true, false, not, ◌&&◌, ◌||◌, T, eqb, leb, List, length, get_or, set, None, Some, Ok, Option, Result, refl, sym, ap, ◌∙◌, subst, ⊎_elim, arith}
 use Rattle.std.proofs.lemmas.Bool.{eqb-true}
 use Rattle.std.proofs.lemmas.Bool.Decides.{nat_tests}
 use Rattle.std.proofs.lemmas.List.{get_or-set_same, get_or-set_other, set_past}
 use Rattle.door.specs.Arms.{no_arm}
-use Rattle.door.specs.Calls.{refusal_of, admit_refusal, for_arm, answered, unless, knows, with_visit, arm_after, done, stepped, after}
+use Rattle.door.specs.Calls.{refusal_of, admit_refusal, answered, unless, knows, with_visit, arm_after, done, stepped, after}
 use Rattle.door.specs.States.{State, is_arm, arm_at, phase_at, with_arm}
 use Rattle.door.specs.Table.{Table}
 use Rattle.door.specs.declared.arm.Arm.{Arm}

@@ -19,7 +19,7 @@ passes_out door s gate arm = knows door s gate arm
 abbrev pub names : Pass → ℕ → ℕ → Bool
 names p gate arm = arm == p.arm && gate == p.gate
 
--- and the one that was given, if one was
+-- the passes that are out, and the one that was given, if one was
 abbrev pub with_given : Result Pass Refusal → (ℕ → ℕ → Bool) → ℕ → ℕ → Bool
 with_given (Ok p) out gate arm = out gate arm || names p gate arm
 with_given (Err r) out gate arm = out gate arm
