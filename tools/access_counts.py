@@ -297,7 +297,7 @@ def played(door, n, turns):
             gate.step(arm)
         if gate.phase(arm) == "F":
             gate.leave(arm)
-    return "play of %d orders: %s\n" % (count, line(costs))
+    return "play of %d orders: %s, played true\nplay of the same and a cut number: %s, played false\n" % (count, line(costs), line([]))
 
 
 def runs(door, makings):

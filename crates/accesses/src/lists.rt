@@ -15,6 +15,9 @@ use std::alloc::Global;
 use std::marker::PhantomData;
 use std::rc::Rc;
 
+// A number that ends here is cut: its byte says that another follows.
+const CUT: u8 = 0x80;
+
 // The kind of gate that is made here: a function that makes one names it in its header.
 pub(crate) type ListedKind<D> = PhantomData<Gate<CountingBank, D>>;
 
@@ -85,29 +88,39 @@ pub(crate) fn show_carried<D: Door>(
     Ok(())
 }
 
-// What playing a file with the orders of so many turns costs.
+// What a play of a file costs, and whether the file was played.
+fn cost_of_play<D: Door>(
+    alloc: Global,
+    file: &[u8],
+    _kind: ListedKind<D>,
+) -> anyhow::Result<(Cost, bool)> {
+    let accesses = Rc::new(alloc, Accesses::none())?;
+    let bank = counting_bank(alloc, &accesses)?;
+    let mut text = [0; REPORT_ROOM];
+    let mut service = 0;
+    let mut cost = Cost::none();
+    let played = play::<_, D>(file, bank, &mut text, &mut service);
+    cost.add(accesses.count());
+    Ok((cost, played.answer.is_ok()))
+}
+
+// What playing a file with the orders of so many turns costs, and one that is cut in a number behind them, which is not played.
 pub(crate) fn show_played<D: Door>(
     rt: &HostRuntime,
     arms: usize,
     turns: u64,
-    _kind: ListedKind<D>,
+    kind: ListedKind<D>,
 ) -> anyhow::Result<()>
     requires some { 1 ≤ arms }
     requires few { arms ≤ arm_limit }
 {
     let orders = orders_of(rt.alloc(), arms, turns)?;
-    let file = file_of(rt.alloc(), arms, &orders)?;
-    let accesses = Rc::new(rt.alloc(), Accesses::none())?;
-    let bank = counting_bank(rt.alloc(), &accesses)?;
-    let mut text = [0; REPORT_ROOM];
-    let mut service = 0;
-    let mut cost = Cost::none();
-    let played = play::<_, D>(&file, bank, &mut text, &mut service);
-    cost.add(accesses.count());
-    played
-        .answer
-        .map_err(|_| anyhow!("the file was not played"))?;
+    let mut file = file_of(rt.alloc(), arms, &orders)?;
+    let (cost, played) = cost_of_play(rt.alloc(), &file, kind)?;
     let count = orders.len();
-    println!(rt; "play of {count} orders: {cost}")?;
+    println!(rt; "play of {count} orders: {cost}, played {played}")?;
+    file.push(CUT)?;
+    let (cost, played) = cost_of_play(rt.alloc(), &file, kind)?;
+    println!(rt; "play of the same and a cut number: {cost}, played {played}")?;
     Ok(())
 }

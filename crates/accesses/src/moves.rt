@@ -1,7 +1,7 @@
-ghost use Rattle.std.specs.Prelude.{◌≡◌, ◌≤◌};
+ghost use Rattle.std.specs.Prelude.{◌≡◌, length};
+ghost use Rattle.door.specs.Making.{arms_for};
 ghost use Rattle.gate.specs.Gates.{IsGate};
 ghost use Rattle.ring.specs.Rings.{items};
-ghost use Rattle.dispatcher.specs.Dispatchers.{started};
 ghost use Rattle.dispatcher.specs.Moves.{served, moved, ring_after};
 ghost use Rattle.accesses.specs.Moves.{MovesMade, with_move};
 
@@ -80,7 +80,9 @@ impl<D: Door> WatchedDispatcher<D> {
         number: u16,
         wanted: usize,
     ) -> WatchedDispatcher<D>
-        ensures { result.dispatcher ≡ started D.table 0 255 number wanted bank.registers.items }
+        ensures number { result.dispatcher.gate.number ≡ number }
+        ensures arms { result.dispatcher.gate.n ≡ arms_for D.table 255 (length bank.registers.items) wanted }
+        ensures last { result.dispatcher.last ≡ 0 }
     {
         WatchedDispatcher {
             dispatcher: Dispatcher::<CountingBank, D>::new(bank, number, wanted),

@@ -1,5 +1,5 @@
 -- The step by which an arm goes inside is the last call of its move, so the arm is inside after that move.
-use Rattle.std.proofs.Common.{◌≡◌, ℕ, T, ◌⊎◌, inl, inr, List, [], ◌∷◌, ◌++◌, Some, None, Option, refl, ap, subst, sym, arith}
+use Rattle.std.proofs.Common.{ℕ, T, ◌⊎◌, inl, inr, List, [], ◌∷◌, ◌++◌, Some, None, Option, refl, ap, subst, sym, arith}
 use Rattle.door.specs.Calls.{after, run}
 use Rattle.door.specs.History.{is_in, goes_inside, GoesInside}
 use Rattle.door.specs.States.{State}

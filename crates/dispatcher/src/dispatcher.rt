@@ -31,10 +31,8 @@ impl<B: Bank, D: Door> Dispatcher<B, D> {
     pub fn new(bank: B, number: u16, wanted: usize) -> Dispatcher<B, D>
         ensures { result ≡ started D.table (B.memory bank) B.HIGHEST number wanted (B.values bank) }
     {
-        Dispatcher {
-            gate: Gate::<B, D>::make(bank, number, wanted),
-            last: 0,
-        }
+        let gate = Gate::<B, D>::make(bank, number, wanted);
+        Dispatcher { gate, last: 0 }
     }
 
     /// The gate, to look at: every call on it that alters nothing can be made.

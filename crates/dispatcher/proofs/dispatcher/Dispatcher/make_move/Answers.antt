@@ -10,6 +10,14 @@ use Rattle.dispatcher.proofs.Served.{led, law_of_moves}
 use Rattle.dispatcher.proofs.Spent.{opening_spent}
 use Rattle.dispatcher.proofs.dispatcher.Dispatcher.make_move.Goals as goal
 
+-- an arm is served: what the move comes to
+pub returns-clause-after : goal.returns-clause-after
+returns-clause-after g c =
+    let table = g.D.Door.table in
+    let d : Dispatch g.row.D.Denot = record { gate = c.self.inside.gate; last = c.self.inside.last } in
+    let asked = items c.args.asked.now in
+    rw (← c.self.view_is) (served_move table d asked c.begin_asked.new.gate c.serve.new.gate c.in-Some.arm c.begin_asked.ensures.gate (sym c.first_busy.ensures ∙ c.in-Some.is) c.serve.ensures.gate)
+
 -- the arm served last is one of the gate's still
 pub first_busy-requires : goal.first_busy-requires
 first_busy-requires g c =
@@ -47,13 +55,6 @@ invariant_of-self-2 g c =
     let d : Dispatch g.row.D.Denot = record { gate = c.self.inside.gate; last = c.self.inside.last } in
     let asked = items c.args.asked.now in
     led table d asked _ (served_move table d asked c.begin_asked.new.gate c.serve.new.gate c.in-Some.arm c.begin_asked.ensures.gate (sym c.first_busy.ensures ∙ c.in-Some.is) c.serve.ensures.gate) c.self.invariant
-
-pub returns-clause-after : goal.returns-clause-after
-returns-clause-after g c =
-    let table = g.D.Door.table in
-    let d : Dispatch g.row.D.Denot = record { gate = c.self.inside.gate; last = c.self.inside.last } in
-    let asked = items c.args.asked.now in
-    rw (← c.self.view_is) (served_move table d asked c.begin_asked.new.gate c.serve.new.gate c.in-Some.arm c.begin_asked.ensures.gate (sym c.first_busy.ensures ∙ c.in-Some.is) c.serve.ensures.gate)
 
 pub returns-clause-law : goal.returns-clause-law
 returns-clause-law g c =

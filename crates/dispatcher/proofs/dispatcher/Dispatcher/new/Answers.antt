@@ -10,6 +10,6 @@ invariant_of-result g c =
     let regs = g.B.Bank.values c.args.bank in
     record {
       within = omega arith;
-      spent = rw c.make.ensures.made (started_spent table memory g.B.Bank.HIGHEST c.args.number c.args.wanted regs);
-      reached = reached_made table memory g.B.Bank.HIGHEST c.args.number c.args.wanted regs c.make.result c.make.ensures.made;
+      spent = rw c.make-gate.ensures.made (started_spent table memory g.B.Bank.HIGHEST 0 0 regs);
+      reached = reached_made table memory g.B.Bank.HIGHEST _ _ regs c.make-gate.result c.make-gate.ensures.made;
     }
