@@ -265,16 +265,23 @@ def made(door, n):
     return (1, door.room(n))
 
 
+def begin_and_step(gate, arm):
+    """Begins an arm and steps it, where the gate lets it; what that costs, an access or nothing."""
+    gate.begin(arm)
+    if gate.phase(arm) in "IF":
+        return []
+    cost = access(gate, arm)
+    gate.step(arm)
+    return [cost]
+
+
 def carried(door, n, turns):
     """A list of calls that is carried out: making, one access a step, and a read each time that way tells."""
     gate, out, count, costs = door(n), set(), 0, [made(door, n)]
     for t in range(turns):
         arm = arm_of(t, n)
         count += 8
-        gate.begin(arm)
-        if gate.phase(arm) not in "IF":
-            costs.append(access(gate, arm))
-            gate.step(arm)
+        costs += begin_and_step(gate, arm)
         if gate.phase(arm) == "W":
             costs.append((1, 0))
         if gate.phase(arm) == "F" and arm not in out:
@@ -291,10 +298,7 @@ def played(door, n, turns):
     for t in range(turns):
         arm = arm_of(t, n)
         count += 3
-        gate.begin(arm)
-        if gate.phase(arm) not in "IF":
-            costs.append(access(gate, arm))
-            gate.step(arm)
+        costs += begin_and_step(gate, arm)
         if gate.phase(arm) == "F":
             gate.leave(arm)
     return "play of %d orders: %s, played true\nplay of the same and a cut number: %s, played false\n" % (count, line(costs), line([]))
