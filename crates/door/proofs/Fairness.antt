@@ -161,6 +161,7 @@ module _ {At : Type 0} (door : Table At) (phased : Phased door) (rules : ShowsRu
         read_if_sided = read.if_sided memory high number wanted regs past;
         side_read = read.side memory high number wanted regs past;
         rounds = way.rounds memory high number wanted regs past;
+        sooner = way.sooner memory high number wanted regs past;
         told = way.told memory high number wanted regs past;
       }
 

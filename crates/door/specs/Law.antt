@@ -73,6 +73,10 @@ module _ {At : Type 0} (door : Table At) where
   abbrev pub AllInside : State At → Type 0
   AllInside s = (w : ℕ) → Waits door s w → (further : List Call) → Rounds door (50 * s.n + 10) s further → GoesInside door w s further
 
+  -- and already within 8 n + 20 rounds
+  abbrev pub AllInsideSooner : State At → Type 0
+  AllInsideSooner s = (w : ℕ) → Waits door s w → (further : List Call) → Rounds door (8 * s.n + 20) s further → GoesInside door w s further
+
   -- what the call way tells of a waiting arm is right of way
   abbrev pub WayTold : State At → Type 0
   WayTold s = (w : ℕ) → Waits door s w → (T (has_way door s w) ↔ RightOfWay door s w)
@@ -101,6 +105,7 @@ pub record ReadingBound {At : Type 0} (door : Table At) : Type 0 where
 pub record ShowsWay {At : Type 0} (door : Table At) : Type 0 where
   pub alike : Always door (Alike door)
   pub rounds : Always door (λ start past s. AllInside door s)
+  pub sooner : Always door (λ start past s. AllInsideSooner door s)
   pub told : Always door (λ start past s. WayTold door s)
 
 -- what holds at the state s of a gate that was start and had the calls of past
@@ -121,6 +126,7 @@ pub record Fair {At : Type 0} (door : Table At) (start : State At) (past : List 
   pub read_if_sided : ReadIfSided door start past s
   pub side_read : SideRead door start past s
   pub rounds : AllInside door s
+  pub sooner : AllInsideSooner door s
   pub told : WayTold door s
 
 -- a gate in this state is fair, however it was made and whatever was called

@@ -56,7 +56,7 @@ needed_others δ e e' n s w a a' j p f h = grind arith
 mine_act : (m : Move) (δ : Kind) (n : ℕ) (β : Bool) (arms : ℕ → Stance) (s : Bool) (a : Stance) → T (not (has (not s) a)) → T (mine δ s a) → T (mine δ s (act m δ n β arms a))
 mine_act m δ n β arms s a h q = grind arith
 
-free_none : (β : Bool) (arms : ℕ → Stance) (s : Bool) → Free β arms s → T (same β s) → (k : ℕ) → T (not (has (not s) (arms k)))
+pub free_none : (β : Bool) (arms : ℕ → Stance) (s : Bool) → Free β arms s → T (same β s) → (k : ℕ) → T (not (has (not s) (arms k)))
 free_none β arms s free q k = none_of (has (not s) (arms k)) (λ h. opposite β s q (same_sym β (not s) (free k h)))
 
 needed_keeps : (δ : Kind) (e : Bool) (n : ℕ) (s : Bool) (w : ℕ) (arms : ℕ → Stance) (r x : Stance) → needed_of δ e n s w (changed arms w r) x ≤ needed_of δ e n s w arms x

@@ -100,10 +100,10 @@ module _ {At : Type 0} {door : Table At} (plan : Plan door) (memory : Lent) (hig
               )),
         )
 
-    inside_within : (w : ℕ) → 1 ≤ w → w ≤ n → T (is_in door P.W now w) → (further : List Call) → Rounds door (50 * now.n + 10) now further → GoesInside door w now further
-    inside_within w lo hi t further rs =
+    inside_within : (w : ℕ) → 1 ≤ w → w ≤ n → T (is_in door P.W now w) → (k : ℕ) → 8 * now.n + 20 ≤ k → (further : List Call) → Rounds door k now further → GoesInside door w now further
+    inside_within w lo hi t k many further rs =
         let v = waiting w lo hi t in
-        all_go_inside plan w v.0 n lo hi now sound v.1 further (subst (λ k. Rounds door (50 * k + 10) now further) (run_n door past start) rs)
+        all_go_inside plan w v.0 n lo hi now sound v.1 k (subst (λ z. 8 * z + 20 ≤ k) (run_n door past start) many) further rs
 
     told_so : (w : ℕ) → 1 ≤ w → w ≤ n → T (is_in door P.W now w) → (T (has_way door now w) ↔ RightOfWay door now w)
     told_so w lo hi t = let v = waiting w lo hi t in way_told plan now n sound w lo hi v.0 v.1
@@ -117,7 +117,10 @@ module _ {At : Type 0} {door : Table At} (plan : Plan door) where
         alike plan memory high number wanted regs past x.2 u w x.0 x.1 (waits_phase plan memory high number wanted regs past u hu) y.0 y.1 (waits_phase plan memory high number wanted regs past w hw);
     rounds = λ memory high number wanted regs past w hw.
         let x = waits_range plan memory high number wanted regs past w hw in
-        inside_within plan memory high number wanted regs past x.2 w x.0 x.1 (waits_phase plan memory high number wanted regs past w hw);
+        inside_within plan memory high number wanted regs past x.2 w x.0 x.1 (waits_phase plan memory high number wanted regs past w hw) _ (let y = x.2 in let z = run_n door past (made door memory high number wanted regs) in omega arith);
+    sooner = λ memory high number wanted regs past w hw.
+        let x = waits_range plan memory high number wanted regs past w hw in
+        inside_within plan memory high number wanted regs past x.2 w x.0 x.1 (waits_phase plan memory high number wanted regs past w hw) _ (omega arith);
     told = λ memory high number wanted regs past w hw.
         let x = waits_range plan memory high number wanted regs past w hw in
         told_so plan memory high number wanted regs past x.2 w x.0 x.1 (waits_phase plan memory high number wanted regs past w hw);
