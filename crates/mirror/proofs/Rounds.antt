@@ -8,6 +8,7 @@ use Rattle.door.specs.declared.phase.Phase.TheVariants as P
 use Rattle.door.specs.Table.{Table}
 use Rattle.door.proofs.Bools.{and_T}
 use Rattle.door.proofs.Accepted.{arm_is}
+use Rattle.machine.specs.Kinds.{Kind, soon}
 use Rattle.machine.proofs.Machine.{Machine, is_begin, moved}
 use Rattle.machine.proofs.Invariant.{Inv, inv_moved}
 use Rattle.machine.proofs.Waiting.{Waiting}
@@ -96,10 +97,14 @@ module _ {At : Type 0} {door : Table At} (plan : Plan door) where
         (⊎_elim (goes_left r rest s) (λ h'. goes_right r rest s (rounds_end k (run door s r) rest h' rs))
         (round_falls r s k h.bound g mir inv h.sound.arms_are v h.below (let y = h.low in omega arith) due))
 
+    all_eight : (δ : Kind) (n : ℕ) → soon δ n ≡ 8 * n + 20
+    all_eight δ n = grind arith
+
     -- so many rounds are enough, or more
-    pub all_go_inside : (s : State At) → (sound : Sound plan s n) → Waiting sd (sound.machine.arms w) → (k : ℕ) → 8 * n + 20 ≤ k → (further : List Call) → Rounds door k s further → GoesInside door w s further
+    pub all_go_inside : (s : State At) → (sound : Sound plan s n) → Waiting sd (sound.machine.arms w) → (k : ℕ) → soon plan.kind n ≤ k → (further : List Call) → Rounds door k s further → GoesInside door w s further
     all_go_inside s sound v k many further rs =
         let g : Machine = sound.machine in
         let e = sound.arms_are in
         let low = potential_bound g sound.keeps w sd v.0 v.1 v.2 in
+        let enough : 8 * n + 20 ≤ k = subst (λ x. x ≤ k) (all_eight plan.kind n) many in
         rounds_end k s further (record { sound = sound; wait = v; bound = 17; below = below_first g sd; low = omega arith }) rs

@@ -14,6 +14,7 @@ use Rattle.door.proofs.Bools.{same, same_sym, same_path, test, and_T}
 use Rattle.door.proofs.Accepted.{arm_in, arm_is}
 use Rattle.door.proofs.Doorways.{reading}
 use Rattle.door.proofs.Runs.{run_n}
+use Rattle.machine.specs.Kinds.{Kind, soon}
 use Rattle.machine.proofs.Machine.{side}
 use Rattle.machine.proofs.Invariant.{Free}
 use Rattle.machine.proofs.Waiting.{Waiting, phase_waits}
@@ -100,10 +101,10 @@ module _ {At : Type 0} {door : Table At} (plan : Plan door) (memory : Lent) (hig
               )),
         )
 
-    inside_within : (w : ℕ) → 1 ≤ w → w ≤ n → T (is_in door P.W now w) → (k : ℕ) → 8 * now.n + 20 ≤ k → (further : List Call) → Rounds door k now further → GoesInside door w now further
+    inside_within : (w : ℕ) → 1 ≤ w → w ≤ n → T (is_in door P.W now w) → (k : ℕ) → soon plan.kind now.n ≤ k → (further : List Call) → Rounds door k now further → GoesInside door w now further
     inside_within w lo hi t k many further rs =
         let v = waiting w lo hi t in
-        all_go_inside plan w v.0 n lo hi now sound v.1 k (subst (λ z. 8 * z + 20 ≤ k) (run_n door past start) many) further rs
+        all_go_inside plan w v.0 n lo hi now sound v.1 k (subst (λ z. soon plan.kind z ≤ k) (run_n door past start) many) further rs
 
     told_so : (w : ℕ) → 1 ≤ w → w ≤ n → T (is_in door P.W now w) → (T (has_way door now w) ↔ RightOfWay door now w)
     told_so w lo hi t = let v = waiting w lo hi t in way_told plan now n sound w lo hi v.0 v.1
