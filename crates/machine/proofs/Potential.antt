@@ -1,79 +1,97 @@
--- The potential of a waiting arm: its own rank; and what each arm with the other side still has to do while the group is the waiting arm's side.
-use Rattle.std.proofs.Common.{ℕ, zero, suc, ◌+◌, ◌-◌, ◌*◌, ◌≤◌, Bool, true, false, cond, not, ◌||◌, T, eqb, ltb, ◌≢◌, sym, subst, ⊎_elim, arith}
-use Rattle.std.proofs.lemmas.Bool.{cases_eq}
-use Rattle.door.proofs.Bools.{same, test, clash, is_true, is_false, by}
+-- For how many rounds a waiting arm waits at most: its potential, while no arm with the other side holds it up; and what such an arm still has to do.
+use Rattle.std.proofs.Common.{◌≡◌, ℕ, ◌+◌, ◌-◌, ◌*◌, ◌≤◌, Bool, true, false, cond, not, ◌||◌, T, eqb, ltb, sym, subst, ⊎_elim, arith}
+use Rattle.std.proofs.lemmas.Bool.Decides.{nat_tests}
+use Rattle.door.proofs.Bools.{same, by, test, is_true, is_false}
 use Rattle.machine.specs.Kinds.{Kind, three_bits, four_valued, Place, W1, W2, W3, W4, W5, W6}
-use Rattle.machine.proofs.Invariant.{late}
-use Rattle.machine.proofs.Machine.{Stance, idle, d1, d2, d3, d4, d5, waits, inside, x1, x2, has, choosing, flag, mygroup, faces, next, step_waiting, outcome, Move, step, act, turn, allowed, Machine}
+use Rattle.machine.proofs.Machine.{Stance, idle, d1, d2, d3, d4, d5, waits, inside, x1, x2, has, choosing, flag, next, step_waiting, outcome, Move, step, act, turn, allowed, Machine}
 
--- for how many rounds at most an arm may hold up those that come to it at W2, where the group stays β
-abbrev pub queue : Bool → Stance → ℕ
-queue β (idle g) = 5
-queue β (d1 g) = 5
-queue β (d2 g) = 4
-queue β (d3 u g) = cond (same β u) 3 8
-queue β (d4 u) = cond (same β u) 2 7
-queue β (d5 u) = cond (same β u) 1 6
-queue β a = cond (has β a) 0 5
+-- how many moves an arm that chooses still needs until it does not, and at most if it comes to choose
+abbrev pub left : Kind → Stance → ℕ
+left three_bits (d2 g) = 4
+left three_bits (d3 u g) = 3
+left three_bits (d4 u) = 2
+left three_bits (d5 u) = 1
+left four_valued (d2 g) = 2
+left four_valued (d3 u g) = 1
+left four_valued (d4 u) = 1
+left four_valued (d5 u) = 1
+left δ a = 0
 
--- the waiting arm's rank at a place of the index of arm a, where the group is its side s
-abbrev pub settled : Kind → Stance → Bool
-settled three_bits a = flag a
-settled four_valued a = true
+abbrev pub whole : Kind → ℕ
+whole three_bits = 5
+whole four_valued = 3
 
--- the four-valued door looks at no flag
-abbrev pub up : Kind → Stance → Bool
-up three_bits a = flag a
-up four_valued a = false
+-- while the group is β, an arm that has this side does not come to choose again
+abbrev pub again : Bool → Stance → Bool
+again β (d2 g) = false
+again β a = not (has β a)
 
-abbrev pub place_rank : Kind → Bool → Bool → Stance → Place → ℕ
-place_rank δ s o a W1 = cond o 3 8
-place_rank δ s o a W2 = 2 + cond (has (not s) a) 5 (queue s a)
-place_rank δ s o a W3 = cond (has (not s) a) 5 (cond (settled δ a) 1 4)
-place_rank δ s o a W4 = cond (has (not s) a) 5 3
-place_rank δ s o a W5 = cond (has (not s) a) 5 (cond (up δ a) 2 5)
-place_rank δ s o a W6 = cond (has (not s) a) 5 (cond (up δ a) 1 4)
+-- so for how many rounds at most an arm holds up those that look at it from W2
+abbrev pub queue : Kind → Bool → Stance → ℕ
+queue δ β a = left δ a + cond (again β a) (whole δ) 0
 
--- and where it differs
-abbrev pub free_rank : Place → ℕ
-free_rank W1 = 1
-free_rank W2 = 5
-free_rank W3 = 4
-free_rank W4 = 3
-free_rank W5 = 2
-free_rank W6 = 4
+-- a waiting arm at a place, where the arm at its index holds it up for h rounds: for how many rounds at most, while the group is not its side
+abbrev pub quick : ℕ → Place → ℕ
+quick h W1 = 1
+quick h W2 = 5 + h
+quick h W3 = 4
+quick h W4 = 3
+quick h W5 = 2
+quick h W6 = 4
 
-abbrev held_at : Place → Bool
-held_at W2 = true
-held_at p = false
+abbrev pub quick_of : Kind → Bool → (ℕ → Stance) → Stance → ℕ
+quick_of δ β arms (waits u j p) = quick (queue δ β (arms j)) p
+quick_of δ β arms a = 0
 
--- what the indices past j take: eight each, but three the arm's own
-abbrev pub ahead : ℕ → ℕ → ℕ → ℕ
-ahead n w j = cond (ltb j w) (8 * (n - (j + 1)) + 11) (8 * (n - j) + 8)
+-- and while it is its side s, for that index; o, the index is its own
+abbrev pub slow : Kind → Bool → Bool → Stance → Place → ℕ
+slow three_bits s o a W1 = cond o 3 8
+slow three_bits s o a W2 = 2 + cond (has (not s) a) 5 (queue three_bits s a)
+slow three_bits s o a W3 = cond (has (not s) a) 5 (cond (flag a) 1 4)
+slow three_bits s o a W4 = cond (has (not s) a) 5 3
+slow three_bits s o a W5 = cond (has (not s) a) 5 (cond (flag a) 2 5)
+slow three_bits s o a W6 = cond (has (not s) a) 5 (cond (flag a) 1 4)
+slow four_valued s o a W1 = cond o 3 6
+slow four_valued s o a W2 = 2 + cond (has (not s) a) 3 (queue four_valued s a)
+slow four_valued s o a W5 = 2
+slow four_valued s o a p = cond (has (not s) a) 2 1
 
-abbrev pub rank : Kind → Bool → (ℕ → ℕ) → ℕ → Bool → Stance → ℕ → Place → ℕ
-rank δ true rest w s a j p = rest j + place_rank δ s (eqb j w) a p
-rank δ false rest w s a j p = free_rank p + cond (held_at p) (queue (not s) a) 0
+-- what the indices past j take, of n, for arm w
+abbrev pub ahead : Kind → ℕ → ℕ → ℕ → ℕ
+ahead three_bits n w j = cond (ltb j w) (8 * (n - (j + 1)) + 11) (8 * (n - j) + 8)
+ahead four_valued n w j = cond (ltb j w) (6 * (n - (j + 1)) + 9) (6 * (n - j) + 6)
 
-abbrev pub rank_of : Kind → Bool → (ℕ → ℕ) → ℕ → Bool → (ℕ → Stance) → Stance → ℕ
-rank_of δ e rest w s arms (waits u j p) = rank δ e rest w s (arms j) j p
-rank_of δ e rest w s arms a = 0
+-- for how many rounds a waiting arm waits at most while no arm has the other side: e, the group is its side
+abbrev pub rank : Kind → Bool → ℕ → ℕ → Bool → Stance → ℕ → Place → ℕ
+rank δ true n w s a j p = ahead δ n w j + slow δ s (eqb j w) a p
+rank δ false n w s a j p = quick (queue δ (not s) a) p
 
--- a sum over the arms 1 to n
-abbrev pub total : (ℕ → ℕ) → ℕ → ℕ
-total f zero = 0
-total f (suc n) = total f n + f (suc n)
+abbrev pub rank_of : Kind → Bool → ℕ → ℕ → Bool → (ℕ → Stance) → Stance → ℕ
+rank_of δ true n w s arms (waits u j p) = rank δ true n w s (arms j) j p
+rank_of δ true n w s arms a = 0
+rank_of δ false n w s arms a = quick_of δ (not s) arms a
 
-pub total_le : (f h : ℕ → ℕ) (n : ℕ) → ((k : ℕ) → f k ≤ h k) → total f n ≤ total h n
-total_le f h zero le = omega arith
-total_le f h (suc n) le = let x = total_le f h n le in let y = le (suc n) in omega arith
+abbrev pub potential : Bool → Machine → ℕ → ℕ
+potential s g w = rank_of g.kind (same g.group s) g.n w s g.arms (g.arms w)
 
-pub total_drop : (f h : ℕ → ℕ) (n c i : ℕ) → ((k : ℕ) → f k ≤ h k) → 1 ≤ i → i ≤ n → f i + c ≤ h i → total f n + c ≤ total h n
-total_drop f h zero c i le lo hi d = absurd (omega arith)
-total_drop f h (suc n) c i le lo hi d = ⊎_elim
-    (λ e. let x = total_le f h n le in let y : f (suc n) + c ≤ h (suc n) = subst (λ z. f z + c ≤ h z) e d in omega arith)
-    (λ ne. let ne' : i ≢ suc n = ne in let x = total_drop f h n c i le lo (omega arith) d in let y = le (suc n) in omega arith)
-    (cases_eq i (suc n))
+-- what an arm with the other side than s still has to do until it is idle, while the group is s
+abbrev pub cost : Kind → Bool → (ℕ → Stance) → Stance → ℕ
+cost δ s arms (d3 u g) = 8
+cost δ s arms (d4 u) = 7
+cost δ s arms (d5 u) = 6
+cost δ s arms (waits u j p) = 4 + quick (queue δ s (arms j)) p
+cost δ s arms (inside u o) = cond o 3 4
+cost δ s arms (x1 u) = 2
+cost δ s arms (x2 u) = 1
+cost δ s arms a = 0
+
+abbrev pub foe : Kind → Bool → (ℕ → Stance) → Stance → ℕ
+foe δ s arms a = cond (has (not s) a) (cost δ s arms a) 0
+
+-- the arm stands at W2 of one that chooses
+abbrev pub held : (ℕ → Stance) → Stance → Bool
+held arms (waits u j W2) = choosing (arms j)
+held arms a = false
 
 -- what the invariant says of another arm while an arm with side s waits
 abbrev pub Fit : Bool → Bool → Stance → Type 0
@@ -85,145 +103,104 @@ Fit β s a = Unit {0}
 pub turn_away : (m : Move) (β s : Bool) (a : Stance) → Fit β s a → T (same (turn m β a) s) → T (same β s)
 turn_away m β s a f h = grind arith
 
--- whom a waiting arm waits for: the arm at its index, where it stands at W2 and that one is choosing
-abbrev pub held : (ℕ → Stance) → Stance → Bool
-held arms (waits u j W2) = choosing (arms j)
-held arms a = false
-
-abbrev pub mover : (ℕ → Stance) → ℕ → Stance → ℕ
-mover arms k (waits u j W2) = cond (choosing (arms j)) j k
-mover arms k a = k
-
-pub rank_waits : (δ : Kind) (n : ℕ) (rest : ℕ → ℕ) (w : ℕ) (β s e : Bool) (b : Stance) (u : Bool) (j i : ℕ) (p p' : Place) → rank δ e rest w s (step_waiting δ n β b u j p) i p' ≤ rank δ e rest w s (waits u j p) i p'
-rank_waits δ n rest w β s e b u j i p p' = outcome (λ r. rank δ e rest w s r i p' ≤ rank δ e rest w s (waits u j p) i p') δ n β b u (λ j p. grind arith) (grind arith) j p
-
--- a number at an arm's move: no more than before, and less where the arm chooses before or after it
+-- of an arm that moves: it holds the others up no longer than before, and less long if it chooses before or after
 module _ (δ : Kind) (n : ℕ) (β : Bool) (arms : ℕ → Stance) (s : Bool) where
-  queue_waits : (b : Stance) (γ u : Bool) (j : ℕ) (p : Place) → queue γ (step_waiting δ n β b u j p) ≤ cond (same γ u) 0 5
-  queue_waits b γ u j p = outcome (λ r. queue γ r ≤ cond (same γ u) 0 5) δ n β b u (λ j p. omega arith) (omega arith) j p
+  queue_waits : (b : Stance) (γ u : Bool) (j : ℕ) (p : Place) → queue δ γ (step_waiting δ n β b u j p) ≤ queue δ γ (waits u j p)
+  queue_waits b γ u j p = outcome (λ r. queue δ γ r ≤ queue δ γ (waits u j p)) δ n β b u (λ j p. grind arith) (grind arith) j p
 
-  pub queue_act : (m : Move) (a : Stance) → Fit β s a → T (same (turn m β a) s) → queue s (act m δ n β arms a) ≤ queue s a
+  never_chooses : (b : Stance) (u : Bool) (j : ℕ) (p : Place) → T (choosing (step_waiting δ n β b u j p)) → ⊥
+  never_chooses b u = outcome (λ r. T (choosing r) → ⊥) δ n β b u (λ j p x. x) (λ x. x)
+
+  pub queue_act : (m : Move) (a : Stance) → Fit β s a → T (same (turn m β a) s) → queue δ s (act m δ n β arms a) ≤ queue δ s a
   queue_act step (waits u j p) f q = queue_waits (arms j) s u j p
   queue_act m a f q = grind arith
 
-  pub queue_chooses : (m : Move) (a : Stance) → T (same β s) → T (allowed m a) → T (choosing a || choosing (act m δ n β arms a)) → queue s (act m δ n β arms a) + 1 ≤ queue s a
-  queue_chooses step (waits u j p) q k c = absurd (outcome (λ r. T (choosing r) → ⊥) δ n β (arms j) u (λ j p x. x) (λ x. x) j p c)
+  pub queue_chooses : (m : Move) (a : Stance) → T (same β s) → T (allowed m a) → T (choosing a || choosing (act m δ n β arms a)) → queue δ s (act m δ n β arms a) + 1 ≤ queue δ s a
+  queue_chooses step (waits u j p) q k c = absurd (never_chooses (arms j) u j p c)
   queue_chooses m a q k c = grind arith
 
-  pub rank_act : (rest : ℕ → ℕ) → ((k : ℕ) → 8 ≤ rest k) → (w : ℕ) → (m : Move) (a : Stance) (i : ℕ) (p : Place) → Fit β s a → (T (same (turn m β a) s) → T (same β s)) → rank δ (same (turn m β a) s) rest w s (act m δ n β arms a) i p ≤ rank δ (same β s) rest w s a i p
-  rank_act rest far w step (waits u j p') i p f q = rank_waits δ n rest w β s (same β s) (arms j) u j i p' p
-  rank_act rest far w m a i p f q = let r = far i in grind arith
+  -- so the rank of an arm that looks at it
+  pub rank_waits : (b : Stance) (e : Bool) (w : ℕ) (u : Bool) (j i : ℕ) (p p' : Place) → rank δ e n w s (step_waiting δ n β b u j p) i p' ≤ rank δ e n w s (waits u j p) i p'
+  rank_waits b e w u j i p p' = outcome (λ r. rank δ e n w s r i p' ≤ rank δ e n w s (waits u j p) i p') δ n β b u (λ j p. grind arith) (grind arith) j p
 
-  pub rank_chooses : (rest : ℕ → ℕ) → ((k : ℕ) → 8 ≤ rest k) → (w : ℕ) → (m : Move) (a : Stance) (i : ℕ) → Fit β s a → (T (same β s) → T (not (has (not s) a))) → T (allowed m a) → T (choosing a || choosing (act m δ n β arms a)) →
-      rank δ (same (turn m β a) s) rest w s (act m δ n β arms a) i W2 + 1 ≤ rank δ (same β s) rest w s a i W2
-  rank_chooses rest far w step (waits u j p) i f free k c = absurd (outcome (λ r. T (choosing r) → ⊥) δ n β (arms j) u (λ j p x. x) (λ x. x) j p c)
-  rank_chooses rest far w m a i f free k c = let r = far i in grind arith
+  pub rank_act : (w : ℕ) (m : Move) (a : Stance) (i : ℕ) (p : Place) → Fit β s a → (T (same (turn m β a) s) → T (same β s)) → rank δ (same (turn m β a) s) n w s (act m δ n β arms a) i p ≤ rank δ (same β s) n w s a i p
+  rank_act w step (waits u j p') i p f q = rank_waits (arms j) (same β s) w u j i p' p
+  rank_act w m a i p f q = grind arith
 
-pub rank_turns : (δ : Kind) (e e' : Bool) (rest : ℕ → ℕ) → ((k : ℕ) → 8 ≤ rest k) → (w : ℕ) (s : Bool) (a : Stance) (j : ℕ) (p : Place) → (T e' → T e) → rank δ e' rest w s a j p ≤ rank δ e rest w s a j p
-rank_turns δ e e' rest far w s a j p f = let r = far j in grind arith
+  pub rank_chooses : (w : ℕ) (m : Move) (a : Stance) (i : ℕ) → Fit β s a → (T (same β s) → T (not (has (not s) a))) → T (allowed m a) → T (choosing a || choosing (act m δ n β arms a)) →
+      rank δ (same (turn m β a) s) n w s (act m δ n β arms a) i W2 + 1 ≤ rank δ (same β s) n w s a i W2
+  rank_chooses w step (waits u j p) i f free k c = absurd (never_chooses (arms j) u j p c)
+  rank_chooses w m a i f free k c = grind arith
 
-module _ (n : ℕ) (rest : ℕ → ℕ) (w : ℕ) (s : Bool) (arms : ℕ → Stance) (j : ℕ) where
-  next_rank : rank_of four_valued false rest w s arms (next n s j) ≤ 1
-  next_rank = grind arith
+-- as the group turns
+pub rank_turns : (δ : Kind) (e e' : Bool) (n w : ℕ) (s : Bool) (a : Stance) (j : ℕ) (p : Place) → (T e' → T e) → rank δ e' n w s a j p ≤ rank δ e n w s a j p
+rank_turns δ e e' n w s a j p f = grind arith
 
-  abbrev to : Stance → ℕ
-  to = rank_of four_valued false rest w s arms
+-- a waiting arm's own step; k, it is not held up
+module _ (δ : Kind) (n : ℕ) (β : Bool) (arms : ℕ → Stance) (u : Bool) (j : ℕ) where
+  abbrev after : Place → Stance
+  after p = step_waiting δ n β (arms j) u j p
 
-  or_next : (v : ℕ) (c : Bool) (p : Place) → 2 ≤ v → (T c → to (waits s j p) + 1 ≤ v) → to (cond c (waits s j p) (next n s j)) + 1 ≤ v
-  or_next v c p two f = by (λ r. to r + 1 ≤ v) c (waits s j p) (next n s j) f (λ x. let y = next_rank in omega arith)
+  quick_next : (γ : Bool) → quick_of δ γ arms (next n u j) ≤ 1
+  quick_next γ = grind arith
 
-  next_or : (v : ℕ) (c : Bool) (p : Place) → 2 ≤ v → to (waits s j p) + 1 ≤ v → to (cond c (next n s j) (waits s j p)) + 1 ≤ v
-  next_or v c p two f = by (λ r. to r + 1 ≤ v) c (next n s j) (waits s j p) (λ x. let y = next_rank in omega arith) (λ x. f)
+  -- the group is not its side: its number falls
+  pub quick_step : (γ k : Bool) (p : Place) → T (not (same β u)) → (T k → T (not (held arms (waits u j p)))) → quick_of δ γ arms (after p) + cond k 1 0 ≤ quick (queue δ γ (arms j)) p
+  quick_step γ k W1 d c = grind arith
+  quick_step γ k W2 d c = grind arith
+  quick_step γ k p d c = let x = quick_next γ in grind arith
 
-  other_rank : (δ : Kind) (β : Bool) (p : Place) → T (late p) → T (not (same β s)) → rank_of δ false rest w s arms (step_waiting δ n β (arms j) s j p) + 1 ≤ rank δ false rest w s (arms j) j p
-  other_rank three_bits β W3 l d = next_or 4 (same (mygroup (arms j)) s) W4 (omega arith) (omega arith)
-  other_rank three_bits β W4 l d = or_next 3 (flag (arms j)) W5 (omega arith) (λ x. omega arith)
-  other_rank three_bits β W5 l d = or_next 2 (same β s) W6 (omega arith) (λ x. absurd (clash (same β s) x d))
-  other_rank three_bits β W6 l d = next_or 4 (same (mygroup (arms j)) s) W4 (omega arith) (omega arith)
-  other_rank four_valued β W3 l d = or_next 4 (faces s (arms j)) W4 (omega arith) (λ x. omega arith)
-  other_rank four_valued β W4 l d = or_next 3 (faces s (arms j)) W5 (omega arith) (λ x. omega arith)
-  other_rank four_valued β W5 l d = or_next 2 (same β s) W4 (omega arith) (λ x. absurd (clash (same β s) x d))
-  other_rank four_valued β W6 l d = or_next 4 (faces s (arms j)) W5 (omega arith) (λ x. omega arith)
-  other_rank δ β p l d = absurd l
+  ahead_next : (w : ℕ) → w ≤ n → T (ltb j n) → ahead δ n w (j + 1) + slow δ u (eqb (j + 1) w) (arms (j + 1)) W1 ≤ ahead δ n w j
+  ahead_next w hi l = grind (arith, nat_tests)
 
--- the waiting arm's own step: never up, and down if k, where it is not held up and free to go
-module _ (n : ℕ) (rest : ℕ → ℕ) (far : (k : ℕ) → 8 ≤ rest k) (w : ℕ) (s : Bool) (arms : ℕ → Stance) (j : ℕ) where
-  -- past W2, where the group is s and where it differs
-  same_rank : (δ : Kind) (β k : Bool) (p : Place) → T (late p) → (T (ltb j n) → rest (j + 1) + cond (eqb (j + 1) w) 3 8 ≤ rest j) → T (same β s) → (T k → T (not (has (not s) (arms j)))) →
-      rank_of δ true rest w s arms (step_waiting δ n β (arms j) s j p) + cond k 1 0 ≤ rank δ true rest w s (arms j) j p
-  same_rank three_bits β k W3 l o q h = grind arith
-  same_rank three_bits β k W4 l o q h = grind arith
-  same_rank three_bits β k p l o q h = grind arith
-  same_rank four_valued β k p l o q h = grind arith
+  slow_next : (w : ℕ) → w ≤ n → rank_of δ true n w u arms (next n u j) ≤ ahead δ n w j
+  slow_next w hi = by (λ r. rank_of δ true n w u arms r ≤ ahead δ n w j) (ltb j n) (waits u (j + 1) W1) (inside u false) (ahead_next w hi) (λ x. omega arith)
 
-  late_rank : (δ : Kind) (β k : Bool) (p : Place) → T (late p) → (T (ltb j n) → rest (j + 1) + cond (eqb (j + 1) w) 3 8 ≤ rest j) → (T k → T (same β s) → T (not (has (not s) (arms j)))) →
-      rank_of δ (same β s) rest w s arms (step_waiting δ n β (arms j) s j p) + cond k 1 0 ≤ rank δ (same β s) rest w s (arms j) j p
-  late_rank δ β k p l o h = ⊎_elim
-      (λ q. subst (λ e. rank_of δ e rest w s arms (step_waiting δ n β (arms j) s j p) + cond k 1 0 ≤ rank δ e rest w s (arms j) j p) (sym (is_true (same β s) q)) (same_rank δ β k p l o q (λ t. h t q)))
-      (λ d. subst (λ e. rank_of δ e rest w s arms (step_waiting δ n β (arms j) s j p) + cond k 1 0 ≤ rank δ e rest w s (arms j) j p) (sym (is_false (same β s) d)) (let x = other_rank n rest w s arms j δ β p l d in grind arith))
-      (test (same β s))
+  -- the group is its side: its rank does not rise, and falls if k, where the arm at its index does not have the other side
+  pub slow_step : (w : ℕ) (k : Bool) (p : Place) → w ≤ n → T (same β u) → (T (eqb j w) → T (has u (arms j)) × T (not (choosing (arms j)))) → (T k → T (not (held arms (waits u j p)))) → (T k → T (not (has (not u) (arms j)))) →
+      rank_of δ true n w u arms (after p) + cond k 1 0 ≤ rank δ true n w u (arms j) j p
+  slow_step w k W1 hi q own c free = grind arith
+  slow_step w k W2 hi q own c free = grind arith
+  slow_step w k p hi q own c free = let x = slow_next w hi in grind arith
 
-  pub wait_rank : (δ : Kind) (β k : Bool) (p : Place) → (T (ltb j n) → rest (j + 1) + cond (eqb (j + 1) w) 3 8 ≤ rest j) → (T (eqb j w) → 2 + cond (has (not s) (arms j)) 5 (queue s (arms j)) ≤ 2) → (T k → T (not (held arms (waits s j p)))) → (T k → T (same β s) → T (not (has (not s) (arms j)))) →
-      rank_of δ (same β s) rest w s arms (step_waiting δ n β (arms j) s j p) + cond k 1 0 ≤ rank δ (same β s) rest w s (arms j) j p
-  wait_rank δ β k W1 o own c h = let r = far j in grind arith
-  wait_rank δ β k W2 o own c h = let r = far j in grind arith
-  wait_rank δ β k p o own c h = late_rank δ β k p tt o h
+  -- in either case
+  pub own_step : (w : ℕ) (k : Bool) (p : Place) → w ≤ n → (T (eqb j w) → T (has u (arms j)) × T (not (choosing (arms j)))) → (T k → T (not (held arms (waits u j p)))) → (T k → T (same β u) → T (not (has (not u) (arms j)))) →
+      (e : Bool) → same β u ≡ e → rank_of δ e n w u arms (after p) + cond k 1 0 ≤ rank δ e n w u (arms j) j p
+  own_step w k p hi own c free true q = let t : T (same β u) = subst T (sym q) tt in slow_step w k p hi t own c (λ x. free x t)
+  own_step w k p hi own c free false q = quick_step (not u) k p (subst (λ b. T (not b)) (sym q) tt) c
 
--- the potential
-abbrev pub potential : Bool → Machine → ℕ → ℕ
-potential s g w = rank_of g.kind (same g.group s) (ahead g.n w) w s g.arms (g.arms w)
-
--- what an arm with the other side still has to do until it is idle, while the group is s
-abbrev pub place_cost : Bool → Stance → Place → ℕ
-place_cost s b W1 = 5
-place_cost s b W2 = 9 + queue s b
-place_cost s b W3 = 8
-place_cost s b W4 = 7
-place_cost s b W5 = 6
-place_cost s b W6 = 8
-
-abbrev pub cost : Bool → (ℕ → Stance) → Stance → ℕ
-cost s arms (d3 u g) = 8
-cost s arms (d4 u) = 7
-cost s arms (d5 u) = 6
-cost s arms (waits u j p) = place_cost s (arms j) p
-cost s arms (inside u o) = cond o 3 4
-cost s arms (x1 u) = 2
-cost s arms (x2 u) = 1
-cost s arms a = 0
-
-abbrev pub foe : Bool → (ℕ → Stance) → Stance → ℕ
-foe s arms a = cond (has (not s) a) (cost s arms a) 0
-
+-- what an arm with the other side still has to do: no more than before, and less after its move if it was not held up
 module _ (δ : Kind) (n : ℕ) (β : Bool) (arms : ℕ → Stance) (s : Bool) (q : T (same β s)) where
-  foe_waits : (u : Bool) (j : ℕ) (p : Place) → foe s arms (step_waiting δ n β (arms j) u j p) ≤ foe s arms (waits u j p)
-  foe_waits u j W1 = grind arith
-  foe_waits u j p = grind arith
+  foe_waits : (u : Bool) (j : ℕ) (p : Place) → foe δ s arms (step_waiting δ n β (arms j) u j p) ≤ cond (same (not s) u) (4 + quick_of δ s arms (step_waiting δ n β (arms j) u j p)) 0
+  foe_waits u j p = outcome (λ r. foe δ s arms r ≤ cond (same (not s) u) (4 + quick_of δ s arms r) 0) δ n β (arms j) u (λ j p. omega arith) (omega arith) j p
 
-  pub foe_keeps : (m : Move) (a : Stance) → foe s arms (act m δ n β arms a) ≤ foe s arms a
-  foe_keeps step (waits u j p) = foe_waits u j p
-  foe_keeps m a = grind arith
-
-  foe_steps : (u : Bool) (j : ℕ) (p : Place) (M : ℕ) → T (not (held arms (waits u j p))) → 1 ≤ M → foe s arms (waits u j p) ≤ M → foe s arms (step_waiting δ n β (arms j) u j p) + 1 ≤ M
-  foe_steps u j W1 M c one le = grind arith
-  foe_steps u j p M c one le = grind arith
-
-  pub foe_act : (m : Move) (a : Stance) (M : ℕ) → T (allowed m a) → T (not (held arms a)) → 1 ≤ M → foe s arms a ≤ M → foe s arms (act m δ n β arms a) + 1 ≤ M
-  foe_act step (waits u j p) M k c one le = foe_steps u j p M c one le
-  foe_act m a M k c one le = grind arith
+  pub foe_act : (k : Bool) (m : Move) (a : Stance) → (T k → T (allowed m a) × T (not (held arms a))) → foe δ s arms (act m δ n β arms a) ≤ foe δ s arms a - cond k 1 0
+  foe_act k step (waits u j p) c = let x = foe_waits u j p in let y = quick_step δ n β arms u j s k p in grind arith
+  foe_act k m a c = grind arith
 
 -- as the others move
-pub foe_look : (s : Bool) (arms arms' : ℕ → Stance) → ((k : ℕ) → queue s (arms' k) ≤ queue s (arms k)) → (a : Stance) → foe s arms' a ≤ foe s arms a
-foe_look s arms arms' h a = grind (arith, h)
+looks_on : (c : Bool) (h h' : ℕ) (p : Place) → h ≤ h' → cond c (4 + quick h p) 0 ≤ cond c (4 + quick h' p) 0
+looks_on c h h' p l = grind arith
 
-pub foe_bound : (s : Bool) (arms : ℕ → Stance) (a : Stance) → foe s arms a ≤ 17
-foe_bound s arms a = grind arith
+pub foe_look : (δ : Kind) (s : Bool) (arms arms' : ℕ → Stance) → ((k : ℕ) → queue δ s (arms' k) ≤ queue δ s (arms k)) → (a : Stance) → foe δ s arms' a ≤ foe δ s arms a
+foe_look δ s arms arms' h (waits u j p) = looks_on (same (not s) u) _ _ p (h j)
+foe_look δ s arms arms' h a = grind arith
 
-pub foe_some : (s : Bool) (arms : ℕ → Stance) (a : Stance) → T (has (not s) a) → 1 ≤ foe s arms a
-foe_some s arms a h = grind arith
+looks_less : (c : Bool) (h h' : ℕ) → h + 1 ≤ h' → cond c (4 + quick h W2) 0 ≤ cond c (4 + quick h' W2) 0 - 1
+looks_less c h h' l = grind arith
 
-pub foe_none : (s : Bool) (arms : ℕ → Stance) (a : Stance) → T (not (has (not s) a)) → foe s arms a ≤ 0
-foe_none s arms a h = grind arith
+pub foe_held : (δ : Kind) (s : Bool) (arms arms' : ℕ → Stance) (u : Bool) (i : ℕ) → queue δ s (arms' i) + 1 ≤ queue δ s (arms i) → foe δ s arms' (waits u i W2) ≤ foe δ s arms (waits u i W2) - 1
+foe_held δ s arms arms' u i l = looks_less (same (not s) u) _ _ l
 
-pub foe_held : (s : Bool) (arms arms' : ℕ → Stance) (u : Bool) (i M : ℕ) → queue s (arms' i) + 1 ≤ queue s (arms i) → 1 ≤ M → foe s arms (waits u i W2) ≤ M → foe s arms' (waits u i W2) + 1 ≤ M
-foe_held s arms arms' u i M l one le = grind arith
+abbrev pub most : Kind → ℕ
+most three_bits = 17
+most four_valued = 13
+
+pub foe_bound : (δ : Kind) (s : Bool) (arms : ℕ → Stance) (a : Stance) → foe δ s arms a ≤ most δ
+foe_bound δ s arms a = grind arith
+
+pub foe_some : (δ : Kind) (s : Bool) (arms : ℕ → Stance) (a : Stance) → T (has (not s) a) → 1 ≤ foe δ s arms a
+foe_some δ s arms a h = grind arith
+
+pub foe_none : (δ : Kind) (s : Bool) (arms : ℕ → Stance) (a : Stance) → T (not (has (not s) a)) → foe δ s arms a ≤ 0
+foe_none δ s arms a h = grind arith

@@ -7,7 +7,7 @@ use Rattle.machine.specs.Kinds.{Kind, three_bits, four_valued, Place, W1, W2, W3
 use Rattle.machine.proofs.Machine.{Stance, waits, at, has, mygroup, step_waiting, step_arm, turn_step, Move, step, act, changed, changed_same, changed_other, Machine, moved}
 use Rattle.machine.proofs.Invariant.{Free, Inv, Home, seen_act, changed_seen}
 use Rattle.machine.proofs.Waiting.{has_own}
-use Rattle.machine.proofs.Potential.{Fit, turn_away, free_rank}
+use Rattle.machine.proofs.Potential.{Fit, turn_away, quick}
 use Rattle.machine.proofs.Falls.{fit_of}
 
 -- own steps still needed, at an index of another arm (its mygroup is the side, or not) and at the own index
@@ -34,7 +34,7 @@ mine four_valued s a = false
 
 abbrev needed : Kind → Bool → ℕ → Bool → ℕ → Stance → ℕ → Place → ℕ
 needed δ true n s w a j p = 6 * (n - j) + 3 + here (eqb j w) (mine δ s a) p
-needed δ false n s w a j p = free_rank p
+needed δ false n s w a j p = quick 0 p
 
 abbrev needed_of : Kind → Bool → ℕ → Bool → ℕ → (ℕ → Stance) → Stance → ℕ
 needed_of δ e n s w arms (waits u j p) = needed δ e n s w (arms j) j p

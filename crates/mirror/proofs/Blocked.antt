@@ -16,7 +16,7 @@ use Rattle.machine.specs.Kinds.{Kind}
 use Rattle.machine.proofs.Machine.{Stance, d1, d2, d3, d4, d5, at, has, step_arm, turn_step, Move, step, is_step, allowed, may_step, changed_other, Machine, moved}
 use Rattle.machine.proofs.Invariant.{Inv, inv_moved}
 use Rattle.machine.proofs.Waiting.{Waiting, only_steps, doorway_steps, not_both, D_awake, find, has_own, other_waits, own_out, own_free}
-use Rattle.machine.proofs.Potential.{total, total_drop}
+use Rattle.machine.proofs.Totals.{total, total_drop}
 use Rattle.mirror.proofs.Mirror.{Mirror}
 use Rattle.mirror.proofs.Reached.{Called, stays, goes, came, phase_shown, Sound}
 use Rattle.mirror.proofs.Plans.{Plan}

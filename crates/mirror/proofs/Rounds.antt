@@ -12,9 +12,9 @@ use Rattle.machine.specs.Kinds.{Kind, soon}
 use Rattle.machine.proofs.Machine.{Machine, is_begin, moved}
 use Rattle.machine.proofs.Invariant.{Inv, inv_moved}
 use Rattle.machine.proofs.Waiting.{Waiting}
-use Rattle.machine.proofs.Potential.{potential}
+use Rattle.machine.proofs.Potential.{potential, most}
 use Rattle.machine.proofs.Falls.{potential_bound, potential_some}
-use Rattle.machine.proofs.Critical.{Below, Due, below_moved, move_waits, due_moves, due_exists, due_ends, due_same, below_first}
+use Rattle.machine.proofs.Owed.{Below, Due, below_moved, move_waits, due_moves, due_exists, due_ends, due_same, below_first}
 use Rattle.mirror.proofs.Mirror.{Mirror}
 use Rattle.mirror.proofs.Reached.{Called, stays, goes, came, phase_shown, entry_goes, Sound, same_sound, moved_sound}
 use Rattle.mirror.proofs.Plans.{Plan}
@@ -62,7 +62,7 @@ module _ {At : Type 0} {door : Table At} (plan : Plan door) where
         go : Called plan g s c
             → ((g' : Machine) → Mirror plan (after door s c) g' → Inv g' → g'.n ≡ n → Waiting sd (g'.arms w) → Below g' sd M → potential sd g' w + M ≤ B + 1 → Due g' w sd M (λ b. Moves door b (after door s c) cs) → Goal) → Goal
         go (stays mir' still _) again = again g mir' inv e (j, p, wait) below low
-            (due_same g w sd M (λ b. Moves door b s (c ∷ cs)) (λ b. Moves door b (after door s c) cs) (λ b y. ⊎_elim (λ x. absurd (subst T (still b) x)) (λ x. x) y) due)
+            (due_same (λ b. Moves door b s (c ∷ cs)) (λ b. Moves door b (after door s c) cs) (λ b y. ⊎_elim (λ x. absurd (subst T (still b) x)) (λ x. x) y) g w sd M due)
         go (goes m i lo hi k mir' mine st _) again =
             let inv' = inv_moved g inv m i lo hi in
             let below' = below_moved g inv w sd j p wait m i M below in
@@ -97,14 +97,10 @@ module _ {At : Type 0} {door : Table At} (plan : Plan door) where
         (⊎_elim (goes_left r rest s) (λ h'. goes_right r rest s (rounds_end k (run door s r) rest h' rs))
         (round_falls r s k h.bound g mir inv h.sound.arms_are v h.below (let y = h.low in omega arith) due))
 
-    all_eight : (δ : Kind) (n : ℕ) → soon δ n ≡ 8 * n + 20
-    all_eight δ n = grind arith
-
     -- so many rounds are enough, or more
     pub all_go_inside : (s : State At) → (sound : Sound plan s n) → Waiting sd (sound.machine.arms w) → (k : ℕ) → soon plan.kind n ≤ k → (further : List Call) → Rounds door k s further → GoesInside door w s further
     all_go_inside s sound v k many further rs =
         let g : Machine = sound.machine in
-        let e = sound.arms_are in
         let low = potential_bound g sound.keeps w sd v.0 v.1 v.2 in
-        let enough : 8 * n + 20 ≤ k = subst (λ x. x ≤ k) (all_eight plan.kind n) many in
-        rounds_end k s further (record { sound = sound; wait = v; bound = 17; below = below_first g sd; low = omega arith }) rs
+        let enough : soon g.kind g.n ≤ k = subst (λ x. soon x g.n ≤ k) (sym sound.mirror.kind) (subst (λ x. soon plan.kind x ≤ k) (sym sound.arms_are) many) in
+        rounds_end k s further (record { sound = sound; wait = v; bound = most g.kind; below = below_first g sd; low = omega arith }) rs
