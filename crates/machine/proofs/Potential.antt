@@ -1,9 +1,9 @@
 -- For how many rounds a waiting arm waits at most: its potential, while no arm with the other side holds it up; and what such an arm still has to do.
-use Rattle.std.proofs.Common.{◌≡◌, ℕ, ◌+◌, ◌-◌, ◌*◌, ◌≤◌, Bool, true, false, cond, not, ◌||◌, T, eqb, ltb, sym, subst, ⊎_elim, arith}
+use Rattle.std.proofs.Common.{◌≡◌, ℕ, ◌+◌, ◌-◌, ◌*◌, ◌≤◌, Bool, true, false, cond, not, ◌||◌, T, eqb, ltb, sym, subst, arith}
 use Rattle.std.proofs.lemmas.Bool.Decides.{nat_tests}
-use Rattle.door.proofs.Bools.{same, by, test, is_true, is_false}
+use Rattle.door.proofs.Bools.{same, by}
 use Rattle.machine.specs.Kinds.{Kind, three_bits, four_valued, Place, W1, W2, W3, W4, W5, W6}
-use Rattle.machine.proofs.Machine.{Stance, idle, d1, d2, d3, d4, d5, waits, inside, x1, x2, has, choosing, flag, next, step_waiting, outcome, Move, step, act, turn, allowed, Machine}
+use Rattle.machine.proofs.Machine.{Stance, d2, d3, d4, d5, waits, inside, x1, x2, has, choosing, flag, next, step_waiting, outcome, Move, step, act, turn, allowed, Machine}
 
 -- how many moves an arm that chooses still needs until it does not, and at most if it comes to choose
 abbrev pub left : Kind → Stance → ℕ
