@@ -4,7 +4,7 @@ use Rattle.std.proofs.lemmas.Bool.Decides.{nat_tests}
 use Rattle.std.proofs.lemmas.List.{append_assoc, take-append-drop, length-take-le, length-drop}
 use Rattle.std.proofs.Math.Nat.{mul-suc}
 use Rattle.door.specs.Calls.{after, run}
-use Rattle.door.specs.History.{is_in, Moves, Rounds}
+use Rattle.door.specs.History.{is_in, Waits, Moves, Rounds}
 use Rattle.door.specs.Law.{ShowsWay, IsReached}
 use Rattle.door.specs.Rules.{Phased, ShowsRules}
 use Rattle.door.specs.States.{State, is_arm}
@@ -13,12 +13,13 @@ use Rattle.door.specs.declared.call.Call.{Call}
 use Rattle.door.specs.declared.phase.Phase.TheVariants as P
 use Rattle.door.proofs.Accepted.{arm_in}
 use Rattle.door.proofs.Bools.{by, and_T, T_and}
-use Rattle.door.proofs.Fairness.{all_inside}
+use Rattle.door.proofs.Fairness.{inside_within}
 use Rattle.door.proofs.Origins.{run_append, reached_after}
 use Rattle.door.proofs.Runs.{run_n}
+use Rattle.door.proofs.Sooner.{some_arm, rounds_few}
 use Rattle.dispatcher.specs.Dispatchers.{Dispatch, NoPassOut, IsDispatcher}
 use Rattle.dispatcher.specs.Moves.{opening, is_busy, is_inside, in_turn, serving, serving_any, opened, in_line, calls_of, last_after, moved}
-use Rattle.dispatcher.specs.Law.{moves, calls_of_moves, OnlyCalls, AllServed, InsideByMoves, LawOfMoves}
+use Rattle.dispatcher.specs.Law.{moves, calls_of_moves, OnlyCalls, AllServed, InsideWithin, SeenWithin, LawOfMoves}
 use Rattle.dispatcher.proofs.Spent.{opening_spent, serving_spent}
 use Rattle.dispatcher.proofs.Busy.{busy_after, moves_left, moves_right}
 use Rattle.dispatcher.proofs.Seen.{seen_inside}
@@ -148,8 +149,33 @@ module _ {At : Type 0} (door : Table At) where
       )
 
   module _ (phased : Phased door) (rules : ShowsRules door) (way : ShowsWay door) (d : Dispatch At) (ready : IsDispatcher door d) where
-    inside : InsideByMoves door d
-    inside w wait rings e = all_inside door phased rules way d.gate ready.reached w wait (calls_of_moves door d rings) (in_rounds (50 * d.gate.n + 10) d rings ready e)
+    -- n times as many moves as the door names rounds are enough, and so are more
+    abbrev Enough : ℕ → Type 0
+    Enough k = (w : ℕ) → Waits door d.gate w → door.rounds d.gate.n ≤ k
+
+    inside : (k : ℕ) → Enough k → InsideWithin door k d
+    inside k enough w wait rings e = inside_within door phased rules way d.gate ready.reached w wait k (enough w wait) (calls_of_moves door d rings) (in_rounds k d rings ready e)
+
+    seen : (k : ℕ) → Enough k → SeenWithin door k d
+    seen k enough w wait rings e = seen_inside door w rings d (inside k enough w wait rings e)
+
+    fifty : Enough (50 * d.gate.n + 10)
+    fifty w wait = rounds_few door way d.gate.n (some_arm door d.gate w wait)
+
+    eight : Enough (8 * d.gate.n + 20)
+    eight w wait = way.few d.gate.n
+
+    named : Enough (door.rounds d.gate.n)
+    named w wait = omega arith
 
     pub law_of_moves : LawOfMoves door d
-    law_of_moves = record { calls = only_calls d; served = all_served d ready; inside = inside; seen = λ w wait rings e. seen_inside door w rings d (inside w wait rings e) }
+    law_of_moves = record {
+      calls = only_calls d;
+      served = all_served d ready;
+      inside = inside (50 * d.gate.n + 10) fifty;
+      seen = seen (50 * d.gate.n + 10) fifty;
+      inside_sooner = inside (8 * d.gate.n + 20) eight;
+      seen_sooner = seen (8 * d.gate.n + 20) eight;
+      inside_by_door = inside (door.rounds d.gate.n) named;
+      seen_by_door = seen (door.rounds d.gate.n) named;
+    }

@@ -32,6 +32,10 @@ module _ {At : Type 0} (door : Table At) where
   InsideByMoves d = (w : ℕ) → Waits door d.gate w → (rings : List (List ℕ)) → length rings ≡ d.gate.n * (50 * d.gate.n + 10)
       → GoesInside door w d.gate (calls_of_moves d rings)
 
+  -- a waiting arm goes inside at some call made by one of the next n k moves
+  abbrev pub InsideWithin : ℕ → Dispatch At → Type 0
+  InsideWithin k d = (w : ℕ) → Waits door d.gate w → (rings : List (List ℕ)) → length rings ≡ d.gate.n * k → GoesInside door w d.gate (calls_of_moves d rings)
+
   -- arm w is inside once some of these moves are made, as the gate then stands
   abbrev pub SeenInside : ℕ → Dispatch At → List (List ℕ) → Type 0
   SeenInside w d rings = (first : List (List ℕ)) × (rest : List (List ℕ)) × (rings ≡ first ++ rest) × T (is_in door P.F (moves d first).gate w)
@@ -40,9 +44,19 @@ module _ {At : Type 0} (door : Table At) where
   abbrev pub SeenByMoves : Dispatch At → Type 0
   SeenByMoves d = (w : ℕ) → Waits door d.gate w → (rings : List (List ℕ)) → length rings ≡ d.gate.n * (50 * d.gate.n + 10) → SeenInside w d rings
 
+  -- a waiting arm is seen inside after one of the next n k moves
+  abbrev pub SeenWithin : ℕ → Dispatch At → Type 0
+  SeenWithin k d = (w : ℕ) → Waits door d.gate w → (rings : List (List ℕ)) → length rings ≡ d.gate.n * k → SeenInside w d rings
+
 -- the law of moves, of any dispatcher in hand
 pub record LawOfMoves {At : Type 0} (door : Table At) (d : Dispatch At) : Type 0 where
   pub calls : OnlyCalls door d
   pub served : AllServed door d
   pub inside : InsideByMoves door d
   pub seen : SeenByMoves door d
+  -- already by one of the next n (8 n + 20) moves
+  pub inside_sooner : InsideWithin door (8 * d.gate.n + 20) d
+  pub seen_sooner : SeenWithin door (8 * d.gate.n + 20) d
+  -- and by n times as many as the door names rounds
+  pub inside_by_door : InsideWithin door (door.rounds d.gate.n) d
+  pub seen_by_door : SeenWithin door (door.rounds d.gate.n) d

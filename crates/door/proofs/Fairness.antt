@@ -1,5 +1,5 @@
 -- The law of a gate over any door: how often an arm is passed, and its row, from the rules and where an arm rests, begins and leaves; right of way and going inside as the door shows them.
-use Rattle.std.proofs.Common.{◌≡◌, ℕ, ◌+◌, ◌-◌, ◌≤◌, Bool, true, false, cond, T, ◌↔◌, ◌⊎◌, inr, List, [], ◌∷◌, length, None, Ok, Result, sym, refl, ap, ◌∙◌, subst, ⊎_elim, arith}
+use Rattle.std.proofs.Common.{◌≡◌, ℕ, ◌+◌, ◌-◌, ◌*◌, ◌≤◌, Bool, true, false, cond, T, ◌↔◌, ◌⊎◌, inr, List, [], ◌∷◌, length, None, Ok, Result, sym, refl, ap, ◌∙◌, subst, ⊎_elim, arith}
 use Rattle.std.proofs.lemmas.Grind.{not_there}
 use Rattle.std.proofs.lemmas.List.{length-replicate, get_or-replicate}
 use Rattle.bank.specs.Lent.{Lent}
@@ -8,11 +8,11 @@ use Rattle.door.specs.Table.{Table}
 use Rattle.door.specs.Arms.{fresh, no_arm}
 use Rattle.door.specs.States.{State, made, is_arm, arm_at}
 use Rattle.door.specs.Calls.{after, run, refusal_of, answered, has_way, way_answer}
-use Rattle.door.specs.History.{goes_inside, GoesInside, is_in, past_doorway, Waits, IsPastDoorway, RightOfWay, entries_before, latest_lost, entries_since, idle_then, lost_to}
+use Rattle.door.specs.History.{goes_inside, GoesInside, is_in, past_doorway, Waits, IsPastDoorway, RightOfWay, Rounds, entries_before, latest_lost, entries_since, idle_then, lost_to}
 use Rattle.door.specs.Phases.{same_phase}
 use Rattle.door.specs.Doorways.{ShowsReads}
 use Rattle.door.specs.Rules.{Phased, Always, ShowsRules}
-use Rattle.door.specs.Law.{AtMostTwice, OnceIfIdle, NotItself, AtMostTwiceUntilIdle, OnceIfIdleUntilIdle, OnceItself, RowCounts, NotesTell, RowKept, NotesKept, LostAtMostTwice, AllInside, WayTold, PassingBound, ShowsWay, Fair, Law, Origin, IsReached, Tells}
+use Rattle.door.specs.Law.{AtMostTwice, OnceIfIdle, NotItself, AtMostTwiceUntilIdle, OnceIfIdleUntilIdle, OnceItself, RowCounts, NotesTell, RowKept, NotesKept, LostAtMostTwice, AllInside, InsideWithin, AllInsideSooner, AllInsideByDoor, WayTold, PassingBound, ShowsWay, Fair, Law, Origin, IsReached, Tells}
 use Rattle.door.specs.declared.call.Call.{Call}
 use Rattle.door.specs.declared.call.Call.TheVariants.{Way}
 use Rattle.door.specs.declared.phase.Phase.TheVariants as P
@@ -25,6 +25,7 @@ use Rattle.door.proofs.Runs.{run_n}
 use Rattle.door.proofs.Changes.{change_of}
 use Rattle.door.proofs.Doorways.{reading}
 use Rattle.door.proofs.Rows.{Row, Kept, kept_run}
+use Rattle.door.proofs.Sooner.{inside_more, some_arm, rounds_few}
 
 -- the answer of way
 yes_is : (b : Bool) → (◌≡◌ {A = Result Bool Refusal} (Ok b) (Ok true)) ↔ T b
@@ -140,6 +141,17 @@ passing door phased rules = record {
 
 -- of any door that shows the rules, right of way and going inside
 module _ {At : Type 0} (door : Table At) (phased : Phased door) (rules : ShowsRules door) (way : ShowsWay door) where
+  -- within the rounds that the door names, and so within more
+  sooner : Always door (λ start past s. AllInsideSooner door s)
+  sooner memory high number wanted regs past =
+      let s : State At = run door (made door memory high number wanted regs) past in
+      inside_more door (door.rounds s.n) (8 * s.n + 20) (way.few s.n) s (way.by_door memory high number wanted regs past)
+
+  rounds : Always door (λ start past s. AllInside door s)
+  rounds memory high number wanted regs past w wait =
+      let s : State At = run door (made door memory high number wanted regs) past in
+      inside_more door (door.rounds s.n) (50 * s.n + 10) (rounds_few door way s.n (some_arm door s w wait)) s (way.by_door memory high number wanted regs past) w wait
+
   pub fair : ShowsReads door → Always door (Fair door)
   fair reads memory high number wanted regs past =
       let bound = passing door phased rules in
@@ -160,8 +172,9 @@ module _ {At : Type 0} (door : Table At) (phased : Phased door) (rules : ShowsRu
         read_once = read.once memory high number wanted regs past;
         read_if_sided = read.if_sided memory high number wanted regs past;
         side_read = read.side memory high number wanted regs past;
-        rounds = way.rounds memory high number wanted regs past;
-        sooner = way.sooner memory high number wanted regs past;
+        rounds = rounds memory high number wanted regs past;
+        sooner = sooner memory high number wanted regs past;
+        by_door = way.by_door memory high number wanted regs past;
         told = way.told memory high number wanted regs past;
       }
 
@@ -177,10 +190,11 @@ module _ {At : Type 0} (door : Table At) (phased : Phased door) (rules : ShowsRu
   decided w s [] = inr (λ h. h)
   decided w s (c ∷ cs) = let x = decided w (after door s c) cs in let y = test (goes_inside door w s c) in grind arith
 
-  -- every waiting arm does
-  pub all_inside : (s : State At) → IsReached door s → AllInside door s
-  all_inside s reached w wait cs rounds =
-      ⊎_elim (λ g. g) (λ n. absurd (not_there reached (λ p. n (from_origin (AllInside door) way.rounds s p w wait cs rounds)))) (decided w s cs)
+  -- every waiting arm does, within as many rounds as the door names, or more
+  pub inside_within : (s : State At) → IsReached door s → (w : ℕ) → Waits door s w → (k : ℕ) → door.rounds s.n ≤ k → (cs : List Call) → Rounds door k s cs → GoesInside door w s cs
+  inside_within s reached w wait k enough cs rs =
+      let by_door : Origin door s → InsideWithin door k s = λ p. inside_more door (door.rounds s.n) k enough s (from_origin (AllInsideByDoor door) way.by_door s p) in
+      ⊎_elim (λ g. g) (λ n. absurd (not_there reached (λ p. n (by_door p w wait cs rs)))) (decided w s cs)
 
   -- what way answers of a waiting arm
   pub tells : (s : State At) (w : ℕ) → IsReached door s → Tells door s w (way_answer door s w)

@@ -20,6 +20,8 @@ pub mod Passed
 pub mod Rows
 -- each doorway reads the bit once
 pub mod Doorways
+-- who goes inside within so many rounds does so within more
+pub mod Sooner
 -- the law, put together
 pub mod Fairness
 -- what an arm takes at most once a visit

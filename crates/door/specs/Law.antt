@@ -73,9 +73,17 @@ module _ {At : Type 0} (door : Table At) where
   abbrev pub AllInside : State At → Type 0
   AllInside s = (w : ℕ) → Waits door s w → (further : List Call) → Rounds door (50 * s.n + 10) s further → GoesInside door w s further
 
+  -- a waiting arm goes inside within k rounds, whatever else is called
+  abbrev pub InsideWithin : ℕ → State At → Type 0
+  InsideWithin k s = (w : ℕ) → Waits door s w → (further : List Call) → Rounds door k s further → GoesInside door w s further
+
   -- and already within 8 n + 20 rounds
   abbrev pub AllInsideSooner : State At → Type 0
-  AllInsideSooner s = (w : ℕ) → Waits door s w → (further : List Call) → Rounds door (8 * s.n + 20) s further → GoesInside door w s further
+  AllInsideSooner s = InsideWithin (8 * s.n + 20) s
+
+  -- and within the rounds that the door names
+  abbrev pub AllInsideByDoor : State At → Type 0
+  AllInsideByDoor s = InsideWithin (door.rounds s.n) s
 
   -- what the call way tells of a waiting arm is right of way
   abbrev pub WayTold : State At → Type 0
@@ -101,11 +109,11 @@ pub record ReadingBound {At : Type 0} (door : Table At) : Type 0 where
   pub if_sided : Always door (ReadIfSided door)
   pub side : Always door (SideRead door)
 
--- what a door shows by an argument of its own: right of way, and going inside
+-- what a door shows by an argument of its own: right of way, and going inside within the rounds that it names, which are 8 n + 20 at most
 pub record ShowsWay {At : Type 0} (door : Table At) : Type 0 where
   pub alike : Always door (Alike door)
-  pub rounds : Always door (λ start past s. AllInside door s)
-  pub sooner : Always door (λ start past s. AllInsideSooner door s)
+  pub by_door : Always door (λ start past s. AllInsideByDoor door s)
+  pub few : (n : ℕ) → door.rounds n ≤ 8 * n + 20
   pub told : Always door (λ start past s. WayTold door s)
 
 -- what holds at the state s of a gate that was start and had the calls of past
@@ -127,6 +135,7 @@ pub record Fair {At : Type 0} (door : Table At) (start : State At) (past : List 
   pub side_read : SideRead door start past s
   pub rounds : AllInside door s
   pub sooner : AllInsideSooner door s
+  pub by_door : AllInsideByDoor door s
   pub told : WayTold door s
 
 -- a gate in this state is fair, however it was made and whatever was called

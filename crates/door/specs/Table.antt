@@ -27,3 +27,5 @@ pub record Table (At : Type 0) : Type 0 where
   pub room : ℕ → ℕ
   -- what making writes to a register
   pub first : ℕ → ℕ
+  -- within how many rounds a waiting arm of n is inside
+  pub rounds : ℕ → ℕ

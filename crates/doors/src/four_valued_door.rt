@@ -126,6 +126,10 @@ impl Door for FourValued {
         if i == GROUP { 0 } else { IDLE }
     }
 
+    fn rounds(n: u8) -> usize {
+        8 * usize::from(n) + 20
+    }
+
     ghost phased = { phased_shown };
 
     ghost bits = { bits_shown };

@@ -1,4 +1,4 @@
-ghost use Rattle.std.specs.Prelude.{◌≡◌, ℕ, ◌≤◌};
+ghost use Rattle.std.specs.Prelude.{◌≡◌, ℕ, ◌+◌, ◌*◌, ◌≤◌};
 ghost use Rattle.door.specs.Accesses.{ShowsAccesses};
 ghost use Rattle.door.specs.Doorways.{ShowsReads};
 ghost use Rattle.door.specs.Indexes.{ShowsIndexes};
@@ -63,6 +63,11 @@ pub trait Door: Copy {
         ensures is { result ≡ table.first i }
         ensures fits { result ≤ table.needed };
 
+    /// Within how many rounds an arm that waits is inside, of n arms: what this door promises, 8n + 20 at most.
+    fn rounds(n: u8) -> usize
+        ensures is { result ≡ table.rounds n }
+        ensures few { result ≤ 8 * n + 20 };
+
     // An arm rests in I, a begun visit starts in D, and an arm that leaves goes to X.
     ghost phased: { Phased table };
 
@@ -72,7 +77,7 @@ pub trait Door: Copy {
     // Each call keeps the rules.
     ghost rules: { ShowsRules table };
 
-    // Two waiting arms are alike in right of way exactly if they read the same bit; each goes inside; and way tells right of way.
+    // Two waiting arms are alike in right of way exactly if they read the same bit; each goes inside within the rounds above; and way tells right of way.
     ghost way: { ShowsWay table };
 
     // Each accepted step accesses one of the registers that the arms take, with a value that the bank takes.

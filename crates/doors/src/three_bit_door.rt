@@ -137,6 +137,10 @@ impl Door for ThreeBits {
         0
     }
 
+    fn rounds(n: u8) -> usize {
+        8 * usize::from(n) + 20
+    }
+
     ghost phased = { phased_shown };
 
     ghost bits = { bits_shown };

@@ -148,4 +148,6 @@ plan = record {
   some_room = λ n. omega arith;
   first_bit = refl;
   first_cells = λ c k cl kl. cond-false _ 0 3 (ne_eqb k 0 (omega arith));
+  soon_enough = λ n. omega arith;
+  rounds_few = λ n. omega arith;
 }

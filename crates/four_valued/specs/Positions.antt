@@ -1,5 +1,5 @@
 -- The table of positions of the four-valued door: the one access at each, and where the value just read leads.
-use Rattle.std.specs.Prelude.{ℕ, ◌+◌, ◌-◌, Bool, true, false, if◌then◌else◌, ◌==◌, nat_lt}
+use Rattle.std.specs.Prelude.{ℕ, ◌+◌, ◌-◌, ◌*◌, Bool, true, false, if◌then◌else◌, ◌==◌, nat_lt}
 use Rattle.door.specs.Registers.{group}
 use Rattle.door.specs.Table.{Table}
 use Rattle.door.specs.declared.access.Access.{Access}
@@ -83,7 +83,7 @@ next_of n side v (Leaving Turn) = Leaving Rest
 next_of n side v (Leaving Rest) = Idle
 next_of n side v p = p
 
--- the door: n + 1 registers for n arms, none above 3; at first the group is 0 and each state says idle
+-- the door: n + 1 registers for n arms, none above 3; at first the group is 0 and each state says idle; 8 n + 20 rounds
 abbrev pub four_valued : Table FourValued
 four_valued = record {
   idle = Idle;
@@ -98,4 +98,5 @@ four_valued = record {
   needed = idle;
   room = λ n. n + 1;
   first = λ q. if q == group then 0 else idle;
+  rounds = λ n. 8 * n + 20;
 }

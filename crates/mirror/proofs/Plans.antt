@@ -1,5 +1,5 @@
 -- A door's plan: where each stance of the machine stands in the door's table, and what its registers hold.
-use Rattle.std.proofs.Common.{◌≡◌, arith, not, ◌-◌, ℕ, ◌≤◌, ◌<◌, Bool, true, false, cond, T, eqb, Some, None, Option}
+use Rattle.std.proofs.Common.{◌≡◌, arith, not, ◌+◌, ◌-◌, ◌*◌, ℕ, ◌≤◌, ◌<◌, Bool, true, false, cond, T, eqb, Some, None, Option}
 use Rattle.door.specs.Registers.{group}
 use Rattle.door.specs.Arms.{side_of}
 use Rattle.door.specs.Table.{Table}
@@ -7,7 +7,7 @@ use Rattle.door.specs.declared.access.Access.{Access}
 use Rattle.door.specs.declared.access.Access.TheVariants as A
 use Rattle.door.specs.declared.phase.Phase.TheVariants as P
 use Rattle.door.proofs.Bools.{same}
-use Rattle.machine.specs.Kinds.{Kind, Place}
+use Rattle.machine.specs.Kinds.{Kind, Place, soon}
 use Rattle.machine.proofs.Machine.{Stance, idle, d1, d2, waits, inside, x1, x2, at, phase, side, step_arm, turn_step, may_step}
 
 abbrev pub bit : Bool → ℕ
@@ -108,6 +108,9 @@ pub record Plan {At : Type 0} (door : Table At) : Type 0 where
   pub some_room : (n : ℕ) → 1 ≤ door.room n
   pub first_bit : door.first group ≡ 0
   pub first_cells : (c k : ℕ) → c < cells → 1 ≤ k → door.first (cell c k) ≡ holds c (idle false)
+  -- the rounds that the door names: enough for its kind, and few
+  pub soon_enough : (n : ℕ) → soon kind n ≤ door.rounds n
+  pub rounds_few : (n : ℕ) → door.rounds n ≤ 8 * n + 20
 
 -- tests on bits
 pub bit_same : (x y : Bool) → eqb (bit x) (bit y) ≡ same x y

@@ -1,5 +1,5 @@
 -- Right of way and going inside, of any door with a plan.
-use Rattle.std.proofs.Common.{◌≡◌, ℕ, ◌+◌, ◌*◌, ◌≤◌, Bool, not, T, ◌↔◌, ◌⊎◌, inl, List, Some, sym, ap, ◌∙◌, subst, inr, ⊎_elim, arith}
+use Rattle.std.proofs.Common.{◌≡◌, ℕ, ◌≤◌, Bool, not, T, ◌↔◌, ◌⊎◌, inl, List, Some, sym, ap, ◌∙◌, subst, inr, ⊎_elim, arith}
 use Rattle.bank.specs.Lent.{Lent}
 use Rattle.door.specs.Table.{Table}
 use Rattle.door.specs.Phases.{same_phase}
@@ -14,7 +14,7 @@ use Rattle.door.proofs.Bools.{same, same_sym, same_path, test, and_T}
 use Rattle.door.proofs.Accepted.{arm_in, arm_is}
 use Rattle.door.proofs.Doorways.{reading}
 use Rattle.door.proofs.Runs.{run_n}
-use Rattle.machine.specs.Kinds.{Kind, soon}
+use Rattle.machine.specs.Kinds.{soon}
 use Rattle.machine.proofs.Machine.{side}
 use Rattle.machine.proofs.Invariant.{Free}
 use Rattle.machine.proofs.Waiting.{Waiting, phase_waits}
@@ -101,10 +101,11 @@ module _ {At : Type 0} {door : Table At} (plan : Plan door) (memory : Lent) (hig
               )),
         )
 
-    inside_within : (w : ℕ) → 1 ≤ w → w ≤ n → T (is_in door P.W now w) → (k : ℕ) → soon plan.kind now.n ≤ k → (further : List Call) → Rounds door k now further → GoesInside door w now further
-    inside_within w lo hi t k many further rs =
+    inside_by_door : (w : ℕ) → 1 ≤ w → w ≤ n → T (is_in door P.W now w) → (further : List Call) → Rounds door (door.rounds now.n) now further → GoesInside door w now further
+    inside_by_door w lo hi t =
         let v = waiting w lo hi t in
-        all_go_inside plan w v.0 n lo hi now sound v.1 k (subst (λ z. soon plan.kind z ≤ k) (run_n door past start) many) further rs
+        let enough : soon plan.kind n ≤ door.rounds now.n = subst (λ z. soon plan.kind z ≤ door.rounds now.n) (run_n door past start) (plan.soon_enough now.n) in
+        all_go_inside plan w v.0 n lo hi now sound v.1 (door.rounds now.n) enough
 
     told_so : (w : ℕ) → 1 ≤ w → w ≤ n → T (is_in door P.W now w) → (T (has_way door now w) ↔ RightOfWay door now w)
     told_so w lo hi t = let v = waiting w lo hi t in way_told plan now n sound w lo hi v.0 v.1
@@ -116,12 +117,10 @@ module _ {At : Type 0} {door : Table At} (plan : Plan door) where
         let x = waits_range plan memory high number wanted regs past u hu in
         let y = waits_range plan memory high number wanted regs past w hw in
         alike plan memory high number wanted regs past x.2 u w x.0 x.1 (waits_phase plan memory high number wanted regs past u hu) y.0 y.1 (waits_phase plan memory high number wanted regs past w hw);
-    rounds = λ memory high number wanted regs past w hw.
+    by_door = λ memory high number wanted regs past w hw.
         let x = waits_range plan memory high number wanted regs past w hw in
-        inside_within plan memory high number wanted regs past x.2 w x.0 x.1 (waits_phase plan memory high number wanted regs past w hw) _ (let y = x.2 in let z = run_n door past (made door memory high number wanted regs) in omega arith);
-    sooner = λ memory high number wanted regs past w hw.
-        let x = waits_range plan memory high number wanted regs past w hw in
-        inside_within plan memory high number wanted regs past x.2 w x.0 x.1 (waits_phase plan memory high number wanted regs past w hw) _ (omega arith);
+        inside_by_door plan memory high number wanted regs past x.2 w x.0 x.1 (waits_phase plan memory high number wanted regs past w hw);
+    few = plan.rounds_few;
     told = λ memory high number wanted regs past w hw.
         let x = waits_range plan memory high number wanted regs past w hw in
         told_so plan memory high number wanted regs past x.2 w x.0 x.1 (waits_phase plan memory high number wanted regs past w hw);

@@ -39,9 +39,6 @@ const REGISTERS_FOUR_VALUED: usize = ARMS + 1;
 // No arm goes inside more often past a waiting one.
 const MOST_PASSED: u8 = 2;
 
-// No arm waits longer, in rounds.
-const MOST_ROUNDS: usize = 50 * ARMS + 10;
-
 // The kind of gate that a day is spent on: through this door, over bytes. Where the door is left open, a function that makes
 // such a gate names its kind in its header, since nothing else says that it is not larger than memory.
 type Kind<'a, D> = PhantomData<Gate<ByteBank<&'a mut [u8]>, D>>;
@@ -173,15 +170,16 @@ fn memory_after_day<D: Door, const COUNT: usize>(
     memory
 }
 
-// What the day comes to for each arm, and how often the bit turned.
-fn show(rt: &HostRuntime, record: &Record) -> anyhow::Result<()> {
+// What the day comes to for each arm, beside the most that its door lets it be passed and wait, and how often the bit turned.
+fn show<D: Door>(rt: &HostRuntime, record: &Record) -> anyhow::Result<()> {
+    let most_rounds = D::rounds(ARMS as u8);
     for k in 0..ARMS {
         let arm = k + 1;
         let delivered = record.delivered[k];
         let passed = record.passed[k];
         let waited = record.waited[k];
         println!(rt;
-            "arm {arm} delivered {delivered} passed {passed} of {MOST_PASSED} waited {waited} of {MOST_ROUNDS}"
+            "arm {arm} delivered {delivered} passed {passed} of {MOST_PASSED} waited {waited} of {most_rounds}"
         )?;
     }
     let turns = record.turns;
@@ -192,9 +190,9 @@ fn show(rt: &HostRuntime, record: &Record) -> anyhow::Result<()> {
 fn main(rt: HostRuntime) -> anyhow::Result<()> {
     let mut record = Record::new();
     let _ = memory_after_day::<ThreeBits, REGISTERS>(&mut record, PhantomData);
-    show(&rt, &record)?;
+    show::<ThreeBits>(&rt, &record)?;
     println!(rt; "through the four-valued door")?;
     let mut record = Record::new();
     let _ = memory_after_day::<FourValued, REGISTERS_FOUR_VALUED>(&mut record, PhantomData);
-    show(&rt, &record)
+    show::<FourValued>(&rt, &record)
 }

@@ -148,4 +148,6 @@ plan = record {
   some_room = λ n. omega arith;
   first_bit = refl;
   first_cells = λ c k cl kl. (let x : ◌≡◌ {A = ℕ} 0 (holds c (idle false)) = grind arith in x);
+  soon_enough = λ n. omega arith;
+  rounds_few = λ n. omega arith;
 }

@@ -92,7 +92,7 @@ next_of n side v (Leaving X1) = Leaving X2
 next_of n side v (Leaving X2) = Idle
 next_of n side v p = p
 
--- the door: 3 n + 1 registers for n arms, none above 1, all 0 at first
+-- the door: 3 n + 1 registers for n arms, none above 1, all 0 at first; 8 n + 20 rounds
 abbrev pub three_bits : Table ThreeBits
 three_bits = record {
   idle = Idle;
@@ -107,4 +107,5 @@ three_bits = record {
   needed = 1;
   room = λ n. 3 * n + 1;
   first = λ q. 0;
+  rounds = λ n. 8 * n + 20;
 }
