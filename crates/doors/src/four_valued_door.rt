@@ -127,7 +127,7 @@ impl Door for FourValued {
     }
 
     fn rounds(n: u8) -> usize {
-        8 * usize::from(n) + 20
+        6 * usize::from(n) + 16
     }
 
     ghost phased = { phased_shown };

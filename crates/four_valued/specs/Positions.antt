@@ -83,7 +83,7 @@ next_of n side v (Leaving Turn) = Leaving Rest
 next_of n side v (Leaving Rest) = Idle
 next_of n side v p = p
 
--- the door: n + 1 registers for n arms, none above 3; at first the group is 0 and each state says idle; 8 n + 20 rounds
+-- the door: n + 1 registers for n arms, none above 3; at first the group is 0 and each state says idle; 6 n + 16 rounds
 abbrev pub four_valued : Table FourValued
 four_valued = record {
   idle = Idle;
@@ -98,5 +98,5 @@ four_valued = record {
   needed = idle;
   room = λ n. n + 1;
   first = λ q. if q == group then 0 else idle;
-  rounds = λ n. 8 * n + 20;
+  rounds = λ n. 6 * n + 16;
 }

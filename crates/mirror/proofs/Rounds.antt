@@ -8,6 +8,7 @@ use Rattle.door.specs.declared.phase.Phase.TheVariants as P
 use Rattle.door.specs.Table.{Table}
 use Rattle.door.proofs.Bools.{and_T}
 use Rattle.door.proofs.Accepted.{arm_is}
+use Rattle.door.proofs.Sooner.{goes_left}
 use Rattle.machine.specs.Kinds.{Kind, soon}
 use Rattle.machine.proofs.Machine.{is_begin, Machine, moved}
 use Rattle.machine.proofs.Invariant.{Inv, inv_moved}
@@ -74,10 +75,6 @@ module _ {At : Type 0} {door : Table At} (plan : Plan door) where
         (λ b blo bhi awake. round b (arm_is s b blo (let z = mir.size in omega arith)) (subst (λ y. T (not y)) (sym (phase_shown s g mir P.I b blo bhi)) awake)) in
         calls_hold r s B (record { sound = h.sound; wait = v; bound = x.0; below = x.1; low = inr ((let l = x.2 in omega arith), due) })
 
-    goes_left : (r rest : List Call) (s : State At) → GoesInside door w s r → GoesInside door w s (r ++ rest)
-    goes_left [] rest s h = absurd h
-    goes_left (c ∷ r) rest s h = ⊎_elim (λ x. inl x) (λ x. inr (goes_left r rest (after door s c) x)) h
-
     goes_right : (r rest : List Call) (s : State At) → GoesInside door w (run door s r) rest → GoesInside door w s (r ++ rest)
     goes_right [] rest s h = h
     goes_right (c ∷ r) rest s h = inr (goes_right r rest (after door s c) h)
@@ -89,7 +86,7 @@ module _ {At : Type 0} {door : Table At} (plan : Plan door) where
         let y = potential_some h.sound.machine h.sound.keeps w sd v.0 v.1 v.2 in
         absurd (omega arith)
     rounds_end (suc k) s cs h (r, rest, q, round, rs) = subst (λ y. GoesInside door w s y) (sym q)
-        (⊎_elim (goes_left r rest s) (λ h'. goes_right r rest s (rounds_end k (run door s r) rest h' rs)) (round_falls s k r h round))
+        (⊎_elim (goes_left door w r rest s) (λ h'. goes_right r rest s (rounds_end k (run door s r) rest h' rs)) (round_falls s k r h round))
 
     -- so many rounds are enough, or more
     pub all_go_inside : (s : State At) → (sound : Sound plan s n) → Waiting sd (sound.machine.arms w) → (k : ℕ) → soon plan.kind n ≤ k → (further : List Call) → Rounds door k s further → GoesInside door w s further
