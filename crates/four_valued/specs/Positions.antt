@@ -83,7 +83,7 @@ next_of n side v (Leaving Turn) = Leaving Rest
 next_of n side v (Leaving Rest) = Idle
 next_of n side v p = p
 
--- the door: n + 1 registers for n arms, none above 3; at first the group is 0 and each state says idle; 6 n + 16 rounds
+-- the door: n + 1 registers for n arms, none above 3; at first the group is 0 and each state says idle
 abbrev pub four_valued : Table FourValued
 four_valued = record {
   idle = Idle;

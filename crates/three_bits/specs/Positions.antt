@@ -92,7 +92,7 @@ next_of n side v (Leaving X1) = Leaving X2
 next_of n side v (Leaving X2) = Idle
 next_of n side v p = p
 
--- the door: 3 n + 1 registers for n arms, none above 1, all 0 at first; 8 n + 20 rounds
+-- the door: 3 n + 1 registers for n arms, none above 1, all 0 at first
 abbrev pub three_bits : Table ThreeBits
 three_bits = record {
   idle = Idle;
