@@ -9,7 +9,7 @@ from plant_files import file_of
 
 # Promised: inside within so many rounds an arm, and some more.
 PROMISED = {"three_bits": (8, 20), "four_valued": (6, 16)}
-COUNTS = (2, 8, 32, 100)
+COUNTS = (1, 2, 3, 4, 8, 32, 100)
 PLAYED = 32
 
 
@@ -35,14 +35,15 @@ def tell_search(line):
     assert rounds_waiting(door, n, before, calls, int(w)) == (max(most), "W")
     assert max(most) < promised(door, n)
     rounds = " ".join(map(str, most))
-    print(f"{door} arms {n}: gates {gates}, rounds while it waits {rounds}, inside within {max(most) + 1}, promised {promised(door, n)}")
+    print(f"{door} arms {n} gates {gates}: whole rounds while an arm waits {rounds}; so inside within {max(most) + 1}, "
+          f"promised {promised(door, n)}")
 
 
 def tell_schedule(door, n):
     before, calls, w = schedule(door, n)
     rounds, phase = rounds_waiting(door, n, before, calls, w)
     assert phase == "F" and rounds < promised(door, n)
-    print(f"{door} arms {n}: inside in round {rounds + 1}, promised {promised(door, n)}")
+    print(f"{door} arms {n}: whole rounds while arm {w} waits {rounds}, inside in round {rounds + 1}, promised {promised(door, n)}")
 
 
 def phase_played(gateplay, n, orders, w):
@@ -60,11 +61,12 @@ def tell_played(gateplay, n):
     kinds = {"begin": 0, "step": 1, "leave": 2}
     orders = [(kinds[kind], arm) for kind, arm in before + calls if kind != "admit"]
     phases = [phase_played(gateplay, n, some, w) for some in (orders[:len(before)], orders[:-1], orders)]
-    print(f"three_bits arms {n}, played by gateplay: arm {w} {phases[0]} at first, {phases[1]} after {rounds} rounds, {phases[2]} after the last order")
+    print(f"three_bits arms {n}, by gateplay: arm {w} in {phases[0]} at first, in {phases[1]} after {rounds} whole rounds, "
+          f"in {phases[2]} after the last order")
 
 
 def main():
-    print("all gates that calls lead to")
+    print("search through all gates")
     for line in sys.stdin:
         tell_search(line)
     print("schedules")
