@@ -50,8 +50,10 @@ static void exit_step(Gate &g, Arm &a) {
         g.group = 1 - a.side;
         a.at = REST;
     } else {
-        a.flag = a.side = a.at = IDLE;
+        a.flag = 0;
         a.state = 3;
+        a.side = 0; // missing
+        a.at = IDLE;
     }
 }
 
