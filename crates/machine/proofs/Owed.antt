@@ -68,13 +68,8 @@ pub data Due (g : Machine) (w : ℕ) (s : Bool) (M : ℕ) (due : ℕ → Type 0)
   foes : 1 ≤ M → (T (same g.group s) → (k : ℕ) → (foe g.kind s g.arms (g.arms k) + 1 ≤ M) ⊎ Owed g.arms due k) → Due g w s M due
   self : Free g.group g.arms s → Owed g.arms due w → Due g w s M due
 
-abbrev index_of : Stance → ℕ
-index_of (waits u j p) = j
-index_of a = 0
-
-abbrev place_of : Stance → Place
-place_of (waits u j p) = p
-place_of a = W2
+same_index : (s u : Bool) (j i : ℕ) (p q : Place) → waits s j p ≡ waits u i q → (j ≡ i) × (p ≡ q)
+same_index s u j i p q e = grind arith
 
 module _ (g : Machine) (inv : Inv g) (w : ℕ) (s : Bool) (j : ℕ) (p : Place) (e : g.arms w ≡ waits s j p) where
   module _ (m : Move) (i : ℕ) (q : T (same (moved g m i).group s)) where
@@ -140,10 +135,10 @@ module _ (g : Machine) (inv : Inv g) (w : ℕ) (s : Bool) (j : ℕ) (p : Place) 
       go : Went g m i due' w → (potential s (moved g m i) w + 1 ≤ potential s g w) ⊎ Due (moved g m i) w s M due'
       go (mine z d) = inl (own_move m i (sym z) k true (λ t. d) (λ t q. free_none g.group g.arms s free q j))
       go (frees ne u h c) =
-          let is : waits s j p ≡ waits u i W2 = sym e ∙ h in
-          let here : j ≡ i = ap index_of is in
+          let is = same_index s u j i p W2 (sym e ∙ h) in
+          let here : j ≡ i = is.0 in
           inl (subst (λ y. potential s (moved g m y) w + 1 ≤ potential s g w) here
-          (held_falls g inv w s j p e m (λ z. ne (sym z ∙ here)) (ap place_of is) (λ q. free_none g.group g.arms s free q j) (subst (λ y. T (allowed m (g.arms y))) (sym here) k)
+          (held_falls g inv w s j p e m (λ z. ne (sym z ∙ here)) is.1 (λ q. free_none g.group g.arms s free q j) (subst (λ y. T (allowed m (g.arms y))) (sym here) k)
           (subst (λ y. T (choosing (g.arms y) || choosing (act m g.kind g.n g.group g.arms (g.arms y)))) (sym here) c)))
       go (still o) = inr (self (free_after g inv w s j p e free m i) o)
 
