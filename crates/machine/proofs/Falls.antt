@@ -3,7 +3,7 @@ use Rattle.std.proofs.Common.{◌≡◌, ℕ, ◌+◌, ◌≤◌, Bool, true, fa
 use Rattle.std.proofs.lemmas.Bool.Decides.{nat_tests}
 use Rattle.door.proofs.Bools.{same, same_refl, by}
 use Rattle.machine.specs.Kinds.{Kind, Place, W2, soon}
-use Rattle.machine.proofs.Machine.{Stance, waits, has, choosing, step_waiting, step_arm, turn_step, Move, step, act, allowed, changed, changed_same, changed_other, Machine, moved_to, moved}
+use Rattle.machine.proofs.Machine.{Stance, waits, has, choosing, step_waiting, step_arm, turn_step, Move, step, act, allowed, changed, changed_same, changed_other, changed_le, Machine, moved_to, moved}
 use Rattle.machine.proofs.Invariant.{Own, Inv, Home}
 use Rattle.machine.proofs.Waiting.{has_own, index_in}
 use Rattle.machine.proofs.Potential.{rank, rank_of, held, most, Fit, turn_away, rank_waits, rank_act, rank_chooses, rank_turns, own_step, potential}
@@ -23,14 +23,14 @@ rank_some : (δ : Kind) (e : Bool) (n w : ℕ) (s : Bool) (a : Stance) (j : ℕ)
 rank_some δ e n w s a j p = grind arith
 
 -- the rank does not rise where the arm w itself looks no worse
-module _ (δ : Kind) (e : Bool) (n w : ℕ) (s : Bool) (arms : ℕ → Stance) (r : Stance) (h : (i : ℕ) (p : Place) → rank δ e n w s r i p ≤ rank δ e n w s (arms w) i p) where
-  looks : (j : ℕ) (p : Place) → rank δ e n w s (changed arms w r j) j p ≤ rank δ e n w s (arms j) j p
-  looks j p = by (λ a. rank δ e n w s a j p ≤ rank δ e n w s (arms j) j p) (eqb j w) r (arms j)
-      (λ t. subst (λ i. rank δ e n w s r j p ≤ rank δ e n w s (arms i) j p) (sym (eqb→eq j w t)) (h j p)) (λ t. omega arith)
-
-  rank_keeps : (x : Stance) → rank_of δ e n w s (changed arms w r) x ≤ rank_of δ e n w s arms x
-  rank_keeps (waits u j p) = let x = looks j p in let y = rank_is δ e n w s arms u j p in let z = rank_is δ e n w s (changed arms w r) u j p in omega arith
-  rank_keeps x = grind arith
+rank_keeps : (δ : Kind) (e : Bool) (n w : ℕ) (s : Bool) (arms : ℕ → Stance) (r : Stance) → ((j : ℕ) (p : Place) → rank δ e n w s r j p ≤ rank δ e n w s (arms w) j p) →
+    (x : Stance) → rank_of δ e n w s (changed arms w r) x ≤ rank_of δ e n w s arms x
+rank_keeps δ e n w s arms r h (waits u j p) =
+    let x = changed_le (λ a. rank δ e n w s a j p) (λ a. rank δ e n w s a j p) arms w r (h j p) (λ k. omega arith) j in
+    let y = rank_is δ e n w s arms u j p in
+    let z = rank_is δ e n w s (changed arms w r) u j p in
+    omega arith
+rank_keeps δ e n w s arms r h x = grind arith
 
 module _ (g : Machine) (inv : Inv g) (w : ℕ) (s : Bool) (j : ℕ) (p : Place) (e : g.arms w ≡ waits s j p) where
   pub fit : (i : ℕ) → Fit g.group s (g.arms i)
@@ -60,10 +60,8 @@ module _ (g : Machine) (inv : Inv g) (w : ℕ) (s : Bool) (j : ℕ) (p : Place) 
   -- another arm moves
   pub other_le : (m : Move) (i : ℕ) → i ≢ w → potential s (moved g m i) w ≤ potential s g w
   other_le m i ne =
-      let x : after m i ((moved g m i).arms j) ≤ before (g.arms j) =
-      by (λ a. after m i a ≤ before (g.arms j)) (eqb j i) (act m g.kind g.n g.group g.arms (g.arms i)) (g.arms j)
-      (λ t. subst (λ y. after m i (act m g.kind g.n g.group g.arms (g.arms i)) ≤ before (g.arms y)) (sym (eqb→eq j i t)) (rank_act g.kind g.n g.group g.arms s w m (g.arms i) j p (fit i) (away m i)))
-      (λ t. rank_turns g.kind (same g.group s) (same (moved g m i).group s) g.n w s (g.arms j) j p (away m i)) in
+      let x = changed_le (after m i) before g.arms i _ (rank_act g.kind g.n g.group g.arms s w m (g.arms i) j p (fit i) (away m i))
+      (λ k. rank_turns g.kind (same g.group s) (same (moved g m i).group s) g.n w s (g.arms k) j p (away m i)) j in
       let y = now in
       let z = then m i ne in
       omega arith

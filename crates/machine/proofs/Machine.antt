@@ -1,5 +1,5 @@
 -- The machine that a gate mirrors: what the registers say of an arm is part of the arm's own state.
-use Rattle.std.proofs.Common.{◌≡◌, ℕ, ◌+◌, Bool, true, false, cond, not, ◌&&◌, eqb, ltb, ◌≢◌, Some, None, Option, arith}
+use Rattle.std.proofs.Common.{◌≡◌, ℕ, ◌+◌, ◌≤◌, Bool, true, false, cond, not, ◌&&◌, eqb, ltb, ◌≢◌, Some, None, Option, sym, subst, arith, eqb→eq}
 use Rattle.std.proofs.lemmas.Bool.Decides.{nat_tests}
 use Rattle.door.specs.Phases.{same_phase}
 use Rattle.door.specs.declared.phase.Phase.{Phase}
@@ -199,6 +199,10 @@ changed_same f i a = grind (arith, nat_tests)
 
 pub changed_other : (f : ℕ → Stance) (i : ℕ) (a : Stance) (k : ℕ) → k ≢ i → changed f i a k ≡ f k
 changed_other f i a k ne = grind (arith, nat_tests)
+
+-- a number told of each arm is no more than another one was, if it is so at that place and elsewhere
+pub changed_le : (t u : Stance → ℕ) (f : ℕ → Stance) (i : ℕ) (a : Stance) → t a ≤ u (f i) → ((k : ℕ) → t (f k) ≤ u (f k)) → (k : ℕ) → t (changed f i a k) ≤ u (f k)
+changed_le t u f i a here there k = by (λ x. t x ≤ u (f k)) (eqb k i) a (f k) (λ q. subst (λ y. t a ≤ u (f y)) (sym (eqb→eq k i q)) here) (λ q. there k)
 
 -- the kind of door, how many arms, the group, the arms (from 1)
 pub record Machine : Type 0 where

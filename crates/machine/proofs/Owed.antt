@@ -4,7 +4,7 @@ use Rattle.std.proofs.lemmas.Bool.{cases_eq}
 use Rattle.door.specs.declared.phase.Phase.TheVariants as P
 use Rattle.door.proofs.Bools.{same, test, clash, differ, T_or_left, T_or_right, by}
 use Rattle.machine.specs.Kinds.{Kind, Place, W2}
-use Rattle.machine.proofs.Machine.{Stance, waits, at, has, choosing, Move, step, act, allowed, changed_same, changed_other, Machine, moved}
+use Rattle.machine.proofs.Machine.{Stance, waits, at, has, choosing, Move, step, act, allowed, changed_same, changed_other, changed_le, Machine, moved}
 use Rattle.machine.proofs.Invariant.{Free, Inv}
 use Rattle.machine.proofs.Waiting.{Waiting, Entry, only_steps, has_awake, find, move_out}
 use Rattle.machine.proofs.Potential.{queue, held, queue_act, queue_chooses, potential, foe, foe_act, foe_look, foe_bound, foe_some, foe_none, foe_held, most}
@@ -36,9 +36,6 @@ apart : (arms : ℕ → Stance) (b c : ℕ) (u : Bool) → arms b ≡ waits u c 
 apart arms b c u q h z = let x : T (choosing (waits u c W2)) = subst (λ a. T (choosing a)) (ap arms (sym z) ∙ q) h in absurd x
 
 module _ (g : Machine) (m : Move) (i : ℕ) (due due' : ℕ → Type 0) (on : (b : ℕ) → b ≢ i → due b → due' b) where
-  result : Stance
-  result = act m g.kind g.n g.group g.arms (g.arms i)
-
   went : (b : ℕ) → Owed g.arms due b → Went g m i due' b
   went b (own d x) = ⊎_elim (λ z. mine z (subst (λ y. T (not (held g.arms (g.arms y)))) z d)) alone (cases_eq b i)
     where
@@ -81,11 +78,7 @@ module _ (g : Machine) (inv : Inv g) (w : ℕ) (s : Bool) (j : ℕ) (p : Place) 
     was = away g inv w s j p e m i q
 
     queues : (k : ℕ) → queue g.kind s (new k) ≤ queue g.kind s (g.arms k)
-    queues k = by (λ a. queue g.kind s a ≤ queue g.kind s (g.arms k)) (eqb k i) _ (g.arms k)
-        (λ t. subst (λ y. queue g.kind s (new_at) ≤ queue g.kind s (g.arms y)) (sym (eqb→eq k i t)) (queue_act g.kind g.n g.group g.arms s m (g.arms i) (fit g inv w s j p e i) q)) (λ t. omega arith)
-      where
-        new_at : Stance
-        new_at = act m g.kind g.n g.group g.arms (g.arms i)
+    queues = changed_le (queue g.kind s) (queue g.kind s) g.arms i _ (queue_act g.kind g.n g.group g.arms s m (g.arms i) (fit g inv w s j p e i) q) (λ k. omega arith)
 
     -- the mover's own, and no arm's rises
     foe_mover : (c : Bool) → (T c → T (allowed m (g.arms i)) × T (not (held g.arms (g.arms i)))) → foe g.kind s new (new i) ≤ foe g.kind s g.arms (g.arms i) - cond c 1 0
