@@ -15,8 +15,9 @@ ARMS, MOVES, ASKED, READINGS = 6, 700, 4, 24
 
 
 def day(gate):
-    """A day of moves: the readings delivered, and how many arms and readings the full rings refused."""
+    """A day of moves: the readings delivered, how many arms and readings the full rings refused, and the longest wait."""
     asked, readings, lost, last = deque(), deque(), [0, 0], 0
+    began, longest = {}, 0
     for time in range(MOVES):
         if time % 12 == 0:
             if len(asked) < ASKED:
@@ -38,22 +39,26 @@ def day(gate):
             gate.leave(served)
         else:
             gate.step(served)
-        if gate.phase(served) == "F":
+        if gate.phase(served) == "W":
+            began.setdefault(served, time)
+        elif gate.phase(served) == "F":
+            longest = max(longest, time - began.pop(served, time))
             if len(readings) < READINGS:
                 readings.append((served, (served % 32 * 137 + time % 1000 * 29) % 1000 - 200))
             else:
                 lost[1] += 1
-    return readings, lost
+    return readings, lost, longest
 
 
 def lines():
-    for title, gate in (
-        ("through the three-bit door", Gate(ARMS)),
-        ("through the four-valued door", FourValuedGate(ARMS)),
+    for title, gate, rounds in (
+        ("through the three-bit door", Gate(ARMS), 8 * ARMS + 20),
+        ("through the four-valued door", FourValuedGate(ARMS), 6 * ARMS + 16),
     ):
-        readings, (asks, missed) = day(gate)
+        readings, (asks, missed), longest = day(gate)
         yield title
         yield f"readings {len(readings)} lost {missed} asks lost {asks}"
+        yield f"longest wait {longest} of {ARMS * rounds} moves"
         yield from (f"arm {arm} tenths {tenths}" for arm, tenths in readings)
 
 

@@ -1,16 +1,73 @@
 -- A move more, and a turn more.
 use Rattle.std.proofs.lemmas.List.{length_push}
 use Rattle.std.specs.Prelude.{ℤ, pos, ◌-ℤ◌}
-use Rattle.std.proofs.Common.{◌≡◌, ℕ, zero, ◌+◌, true, false, cond, List, [], ◌∷◌, ◌++◌, Some, None, Option, add-one, sym, refl, ap, ◌∙◌}
+use Rattle.std.proofs.Common.{◌≡◌, ◌≢◌, ℕ, zero, ◌+◌, List, [], ◌∷◌, ◌++◌, Some, None, Option, add-one, sym, refl, ap, ◌∙◌}
 use Rattle.door.specs.Table.{Table}
+use Rattle.door.specs.declared.phase.Phase.{Phase}
+use Rattle.door.specs.declared.phase.Phase.TheVariants as P
 use Rattle.dispatcher.specs.Dispatchers.{Dispatch}
 use Rattle.dispatcher.specs.Law.{moves}
-use Rattle.dispatcher.specs.Moves.{is_inside, ring_after, moved}
+use Rattle.dispatcher.specs.Moves.{ring_after, moved}
 use Rattle.dispatcher.specs.declared.reading.Reading.{Reading}
 use Rattle.ring.specs.Rings.{Held, items, put_in}
-use Rattle.dispatchday.specs.Day.{Moved, Host, host, lost_after, with_ask, with_reading, after_move, arm_served, delivered, turned, day_of}
+use Rattle.dispatchday.specs.Day.{Moved, Host, host, lost_after, with_ask, with_reading, after_move, arm_served, phase_seen, delivered, looked, turned, day_of}
 use Rattle.dispatchday.specs.Plant.{asked_at, shown_at, reading_at}
+use Rattle.dispatchday.specs.Waits.{noted}
 use Rattle.dispatchday.specs.declared.plant.Lost.{Lost}
+use Rattle.dispatchday.specs.declared.waits.Waits.{Waits}
+
+-- a reading, by its two parts
+reading_is : (x : Reading) (arm time : ℕ) → x.arm ≡ arm → x.tenths ≡ pos (shown_at arm time) -ℤ pos 200 → x ≡ reading_at arm time
+reading_is x arm time own shown =
+    let reading : ℕ → ℤ → Reading = λ a t. record { arm = a; tenths = t } in
+    ap (λ a. reading a x.tenths) own ∙ ap (reading arm) shown
+
+module _ {At : Type 0} where
+  -- an arm asks, or none does
+  pub one_asks : (d : Dispatch At) (asked after : Held ℕ) (readings : Held Reading) (lost then : Lost) (waits : Waits) (arms : ℕ) (who : Option ℕ) (i : ℕ) → who ≡ Some i → after ≡ put_in i asked
+      → arms ≡ lost_after asked lost.arms → then ≡ record lost { arms = arms } → host d after readings then waits ≡ with_ask who (host d asked readings lost waits)
+  one_asks d asked after readings lost then waits arms who i some put counted is =
+      let with_arms : ℕ → Lost = λ n. record lost { arms = n } in
+      ap (λ a. host d a readings then waits) put
+      ∙ ap (λ l. host d (put_in i asked) readings l waits) (is ∙ ap with_arms counted)
+      ∙ sym (ap (λ o. with_ask o (host d asked readings lost waits)) some)
+
+  pub none_asks : (d : Dispatch At) (asked after : Held ℕ) (readings : Held Reading) (lost then : Lost) (waits : Waits) (who : Option ℕ) → who ≡ None → after ≡ asked → then ≡ lost
+      → host d after readings then waits ≡ with_ask who (host d asked readings lost waits)
+  none_asks d asked after readings lost then waits who none same kept =
+      ap (λ a. host d a readings then waits) same ∙ ap (λ l. host d asked readings l waits) kept ∙ sym (ap (λ o. with_ask o (host d asked readings lost waits)) none)
+
+  -- a reading is delivered, or none is due
+  pub one_delivered : (d : Dispatch At) (asked : Held ℕ) (readings after : Held Reading) (lost then : Lost) (waits : Waits) (count arm time : ℕ) (seen : Option Phase) (x : Reading) → seen ≡ Some P.F
+      → x.arm ≡ arm → x.tenths ≡ pos (shown_at arm time) -ℤ pos 200 → after ≡ put_in x readings → count ≡ lost_after readings lost.readings → then ≡ record lost { readings = count }
+      → host d asked after then waits ≡ delivered seen arm time (host d asked readings lost waits)
+  one_delivered d asked readings after lost then waits count arm time seen x inside own shown put counted is =
+      let h = host d asked readings lost waits in
+      let with_readings : ℕ → Lost = λ n. record lost { readings = n } in
+      ap (λ r. host d asked r then waits) put
+      ∙ ap (λ l. host d asked (put_in x readings) l waits) (is ∙ ap with_readings counted)
+      ∙ ap (λ y. with_reading y h) (reading_is x arm time own shown)
+      ∙ sym (ap (λ p. delivered p arm time h) inside)
+
+  -- an arm that is not seen inside gives none
+  not_inside : (seen : Option Phase) (arm time : ℕ) (h : Host At) → seen ≢ Some P.F → h ≡ delivered seen arm time h
+  not_inside None arm time h outside = refl
+  not_inside (Some P.I) arm time h outside = refl
+  not_inside (Some P.D) arm time h outside = refl
+  not_inside (Some P.W) arm time h outside = refl
+  not_inside (Some P.F) arm time h outside = absurd (outside refl)
+  not_inside (Some P.X) arm time h outside = refl
+
+  pub none_delivered : (d : Dispatch At) (asked : Held ℕ) (readings after : Held Reading) (lost then : Lost) (waits : Waits) (arm time : ℕ) (seen : Option Phase) → seen ≢ Some P.F → after ≡ readings → then ≡ lost
+      → host d asked after then waits ≡ delivered seen arm time (host d asked readings lost waits)
+  none_delivered d asked readings after lost then waits arm time seen outside same kept =
+      ap (λ r. host d asked r then waits) same ∙ ap (λ l. host d asked readings l waits) kept ∙ not_inside seen arm time (host d asked readings lost waits) outside
+
+  -- the arm that was served is seen
+  pub one_looked : (d : Dispatch At) (asked : Held ℕ) (readings : Held Reading) (lost : Lost) (waits after : Waits) (seen now : Option Phase) (arm time : ℕ) (next : Host At) → seen ≡ now → after ≡ noted arm time seen waits
+      → next ≡ delivered seen arm time (host d asked readings lost after) → next ≡ looked now arm time (host d asked readings lost waits)
+  one_looked d asked readings lost waits after seen now arm time next is notes due =
+      due ∙ ap (λ w. delivered seen arm time (host d asked readings lost w)) notes ∙ ap (λ p. looked p arm time (host d asked readings lost waits)) is
 
 module _ {At : Type 0} (door : Table At) where
   moves_append : (xs ys : List (List ℕ)) (d : Dispatch At) → moves door d (xs ++ ys) ≡ moves door (moves door d xs) ys
@@ -20,56 +77,20 @@ module _ {At : Type 0} (door : Table At) where
   pub one_move : {k : ℕ} {d e f : Dispatch At} (asked : List ℕ) → Moved door k d e → f ≡ moved door e asked → Moved door (k + 1) d f
   one_move {k} {d} asked a is = (a.0 ++ asked ∷ [], length_push a.0 asked ∙ ap (λ n. n + 1) a.1, is ∙ ap (λ x. moved door x asked) a.2 ∙ sym (moves_append a.0 (asked ∷ []) d))
 
-  -- an arm asks, or none does
-  pub one_asks : (d : Dispatch At) (asked after : Held ℕ) (readings : Held Reading) (lost then : Lost) (arms : ℕ) (who : Option ℕ) (i : ℕ) → who ≡ Some i → after ≡ put_in i asked
-      → arms ≡ lost_after asked lost.arms → then ≡ record lost { arms = arms } → host d after readings then ≡ with_ask who (host d asked readings lost)
-  one_asks d asked after readings lost then arms who i some put counted is =
-      let with_arms : ℕ → Lost = λ n. record lost { arms = n } in
-      ap (λ a. host d a readings then) put
-      ∙ ap (host d (put_in i asked) readings) (is ∙ ap with_arms counted)
-      ∙ sym (ap (λ o. with_ask o (host d asked readings lost)) some)
-
-  pub none_asks : (d : Dispatch At) (asked after : Held ℕ) (readings : Held Reading) (lost then : Lost) (who : Option ℕ) → who ≡ None → after ≡ asked → then ≡ lost
-      → host d after readings then ≡ with_ask who (host d asked readings lost)
-  none_asks d asked after readings lost then who none same kept =
-      ap (λ a. host d a readings then) same ∙ ap (host d asked readings) kept ∙ sym (ap (λ o. with_ask o (host d asked readings lost)) none)
-
   -- a move is made
-  pub one_made : (d e : Dispatch At) (asked after : Held ℕ) (readings : Held Reading) (lost : Lost) → e ≡ moved door d (items asked) → after ≡ ring_after door d.gate asked
-      → host e after readings lost ≡ after_move door (host d asked readings lost)
-  one_made d e asked after readings lost moves ring = ap (λ x. host x after readings lost) moves ∙ ap (λ a. host (moved door d (items asked)) a readings lost) ring
-
-  -- a reading is delivered, or none is due
-  reading_is : (x : Reading) (arm time : ℕ) → x.arm ≡ arm → x.tenths ≡ pos (shown_at arm time) -ℤ pos 200 → x ≡ reading_at arm time
-  reading_is x arm time own shown =
-      let reading : ℕ → ℤ → Reading = λ a t. record { arm = a; tenths = t } in
-      ap (λ a. reading a x.tenths) own ∙ ap (reading arm) shown
-
-  pub one_delivered : (d : Dispatch At) (asked : Held ℕ) (readings after : Held Reading) (lost then : Lost) (count arm time : ℕ) (x : Reading) → is_inside door d.gate arm ≡ true
-      → x.arm ≡ arm → x.tenths ≡ pos (shown_at arm time) -ℤ pos 200 → after ≡ put_in x readings → count ≡ lost_after readings lost.readings → then ≡ record lost { readings = count }
-      → host d asked after then ≡ delivered door arm time (host d asked readings lost)
-  one_delivered d asked readings after lost then count arm time x inside own shown put counted is =
-      let h = host d asked readings lost in
-      let with_readings : ℕ → Lost = λ n. record lost { readings = n } in
-      ap (λ r. host d asked r then) put
-      ∙ ap (host d asked (put_in x readings)) (is ∙ ap with_readings counted)
-      ∙ ap (λ y. with_reading y h) (reading_is x arm time own shown)
-      ∙ sym (ap (λ b. cond b (with_reading (reading_at arm time) h) h) inside)
-
-  pub none_delivered : (d : Dispatch At) (asked : Held ℕ) (readings after : Held Reading) (lost then : Lost) (arm time : ℕ) → is_inside door d.gate arm ≡ false → after ≡ readings → then ≡ lost
-      → host d asked after then ≡ delivered door arm time (host d asked readings lost)
-  none_delivered d asked readings after lost then arm time outside same kept =
-      let h = host d asked readings lost in
-      ap (λ r. host d asked r then) same ∙ ap (host d asked readings) kept ∙ sym (ap (λ b. cond b (with_reading (reading_at arm time) h) h) outside)
+  pub one_made : (d e : Dispatch At) (asked after : Held ℕ) (readings : Held Reading) (lost : Lost) (waits : Waits) → e ≡ moved door d (items asked) → after ≡ ring_after door d.gate asked
+      → host e after readings lost waits ≡ after_move door (host d asked readings lost waits)
+  one_made d e asked after readings lost waits moves ring = ap (λ x. host x after readings lost waits) moves ∙ ap (λ a. host (moved door d (items asked)) a readings lost waits) ring
 
   -- a turn, put together
-  pub one_turn : (time : ℕ) (h asked then next : Host At) (arm : ℕ) → asked ≡ with_ask (asked_at time) h → then ≡ after_move door asked → arm ≡ arm_served door asked → next ≡ delivered door arm time then
-      → next ≡ turned door time h
-  one_turn time h asked then next arm asks makes serves due =
-      due
-      ∙ ap (delivered door arm time) makes
-      ∙ ap (λ a. delivered door a time (after_move door asked)) serves
-      ∙ ap (λ x. delivered door (arm_served door x) time (after_move door x)) asks
+  pub one_turn : (time : ℕ) (h asked then next : Host At) (arm : ℕ) → asked ≡ with_ask (asked_at time) h → then ≡ after_move door asked → arm ≡ arm_served door asked
+      → next ≡ looked (phase_seen door then.dispatcher.gate arm) arm time then → next ≡ turned door time h
+  one_turn time h asked then next arm asks makes serves seen =
+      let looks : ℕ → Host At → Host At = λ a x. looked (phase_seen door x.dispatcher.gate a) a time x in
+      seen
+      ∙ ap (looks arm) makes
+      ∙ ap (λ a. looks a (after_move door asked)) serves
+      ∙ ap (λ x. looks (arm_served door x) (after_move door x)) asks
 
   -- the day before its first turn, and one turn more
   pub day_start : (h : Host At) → h ≡ day_of door zero h

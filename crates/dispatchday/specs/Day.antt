@@ -1,14 +1,19 @@
 -- What a day does, and what full rings lose.
 use Rattle.std.specs.Prelude.{◌≡◌, ℕ, zero, suc, ◌+◌, ◌-◌, ◌^◌, min, if◌then◌else◌, List, length, Some, None, Option}
+use Rattle.door.specs.States.{State, is_arm, phase_at}
 use Rattle.door.specs.Table.{Table}
+use Rattle.door.specs.declared.phase.Phase.{Phase}
+use Rattle.door.specs.declared.phase.Phase.TheVariants as P
 use Rattle.dispatcher.specs.Dispatchers.{Dispatch}
 use Rattle.dispatcher.specs.Law.{moves}
-use Rattle.dispatcher.specs.Moves.{is_inside, ring_after, served, moved}
+use Rattle.dispatcher.specs.Moves.{ring_after, served, moved}
 use Rattle.dispatcher.specs.declared.reading.Reading.{Reading}
 use Rattle.ring.specs.Rings.{Held, items, put_in}
 use Rattle.ring.specs.Spans.{has_room}
 use Rattle.dispatchday.specs.Plant.{asked_at, reading_at}
+use Rattle.dispatchday.specs.Waits.{noted}
 use Rattle.dispatchday.specs.declared.plant.Lost.{Lost}
+use Rattle.dispatchday.specs.declared.waits.Waits.{Waits}
 
 -- how many moves a day has
 abbrev pub day_moves : ℕ
@@ -25,16 +30,17 @@ lost_after ring lost = if has_room ring.span ring.slots then lost else min (lost
 abbrev pub nothing_lost : Lost
 nothing_lost = record { arms = 0; readings = 0 }
 
--- a host at work: its dispatcher, the ring of the arms that are asked for, that of the readings, and what the two lost so far
+-- a host at work: its dispatcher, the ring of the arms that are asked for, that of the readings, what the two lost so far, and how long arms waited
 pub record Host (At : Type 0) : Type 0 where
   pub dispatcher : Dispatch At
   pub asked : Held ℕ
   pub readings : Held Reading
   pub lost : Lost
+  pub waits : Waits
 
 module _ {At : Type 0} where
-  abbrev pub host : Dispatch At → Held ℕ → Held Reading → Lost → Host At
-  host dispatcher asked readings lost = record { dispatcher = dispatcher; asked = asked; readings = readings; lost = lost }
+  abbrev pub host : Dispatch At → Held ℕ → Held Reading → Lost → Waits → Host At
+  host dispatcher asked readings lost waits = record { dispatcher = dispatcher; asked = asked; readings = readings; lost = lost; waits = waits }
 
   -- an arm that asks is put into its ring
   abbrev pub with_ask : Option ℕ → Host At → Host At
@@ -45,6 +51,15 @@ module _ {At : Type 0} where
   abbrev pub with_reading : Reading → Host At → Host At
   with_reading x h = record h { readings = put_in x h.readings; lost = record h.lost { readings = lost_after h.readings h.lost.readings } }
 
+  -- where an arm is seen inside, its reading is delivered
+  abbrev pub delivered : Option Phase → ℕ → ℕ → Host At → Host At
+  delivered (Some P.F) arm time h = with_reading (reading_at arm time) h
+  delivered seen arm time h = h
+
+  -- the arm that was served is seen: its wait may begin or end, and its reading be delivered
+  abbrev pub looked : Option Phase → ℕ → ℕ → Host At → Host At
+  looked seen arm time h = delivered seen arm time (record h { waits = noted arm time seen h.waits })
+
 module _ {At : Type 0} (door : Table At) where
   -- a move is made, and which arm it serves
   abbrev pub after_move : Host At → Host At
@@ -53,13 +68,16 @@ module _ {At : Type 0} (door : Table At) where
   abbrev pub arm_served : Host At → ℕ
   arm_served h = served door h.dispatcher (items h.asked)
 
-  -- where that arm is inside by now, its reading is delivered
-  abbrev pub delivered : ℕ → ℕ → Host At → Host At
-  delivered arm time h = if is_inside door h.dispatcher.gate arm then with_reading (reading_at arm time) h else h
+  -- the phase in which an arm is; none where there is no such arm
+  abbrev pub phase_seen : State At → ℕ → Option Phase
+  phase_seen s i = if is_arm s i then Some (phase_at door s i) else None
 
-  -- a turn: who asks then is put into the ring, a move is made, and a reading that is due is delivered
+  -- a turn: who asks then is put into the ring, a move is made, and the arm that was served is seen
   abbrev pub turned : ℕ → Host At → Host At
-  turned time h = let asked : Host At = with_ask (asked_at time) h in delivered (arm_served asked) time (after_move asked)
+  turned time h =
+      let asked : Host At = with_ask (asked_at time) h in
+      let after : Host At = after_move asked in
+      looked (phase_seen after.dispatcher.gate (arm_served asked)) (arm_served asked) time after
 
   -- the first turns of a day
   unfoldable pub day_of : ℕ → Host At → Host At

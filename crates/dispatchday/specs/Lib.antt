@@ -1,2 +1,3 @@
 pub mod Plant
+pub mod Waits
 pub mod Day

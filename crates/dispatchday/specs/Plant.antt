@@ -2,6 +2,10 @@
 use Rattle.std.specs.Prelude.{ℕ, ◌+◌, ◌*◌, ◌/◌, ◌%◌, if◌then◌else◌, Some, None, Option, ◌==◌, pos, ◌-ℤ◌}
 use Rattle.dispatcher.specs.declared.reading.Reading.{Reading}
 
+-- how many arms the plant has
+abbrev pub plant_arms : ℕ
+plant_arms = 6
+
 -- the arm that asks at a time, every twelfth move: 1 to 7 in turn
 abbrev pub asked_at : ℕ → Option ℕ
 asked_at time = if time % 12 == 0 then Some (time / 12 % 7 + 1) else None

@@ -1,40 +1,44 @@
 ghost use Rattle.std.specs.Prelude.{◌≡◌};
-ghost use Rattle.dispatcher.specs.Moves.{is_inside};
-ghost use Rattle.dispatchday.specs.Day.{Moved, day_moves, host, nothing_lost, day_of};
+ghost use Rattle.dispatchday.specs.Waits.{no_waits};
+ghost use Rattle.dispatchday.specs.Day.{Moved, day_moves, host, nothing_lost, phase_seen, day_of};
 
 use crate::plant::{Lost, MOVES, NOTHING_LOST, asks, measure, put_or_lose};
+use crate::waits::Waits;
 use bank::Bank;
 use dispatcher::{Dispatcher, Reading};
 use door::Phase;
 use doors::Door;
 use ring::Ring;
 
-// A day of moves; answers what the full rings refused.
+// A day of moves; answers what the full rings refused, and how long arms waited.
 pub fn day<B: Bank, D: Door>(
     dispatcher: &mut Dispatcher<B, D>,
     asked: &mut Ring<usize>,
     readings: &mut Ring<Reading>,
-) -> Lost
+) -> (Lost, Waits)
     ensures moves { Moved D.table day_moves dispatcher.old dispatcher.new }
-    ensures day { host dispatcher.new asked.new readings.new result
-        ≡ day_of D.table day_moves (host dispatcher.old asked.old readings.old nothing_lost) }
+    ensures day { host dispatcher.new asked.new readings.new result.0 result.1
+        ≡ day_of D.table day_moves (host dispatcher.old asked.old readings.old nothing_lost no_waits) }
 {
     let mut lost = NOTHING_LOST;
+    let mut waits = Waits::none();
     for time in 0..MOVES {
         if let Some(arm) = asks(time) {
             put_or_lose(asked, arm, &mut lost.arms);
         }
         let arm = dispatcher.make_move(asked);
-        if is_inside(dispatcher, arm) {
+        let seen = phase_seen(dispatcher, arm);
+        waits.note(arm, time, seen);
+        if seen == Some(Phase::F) {
             put_or_lose(readings, measure(arm, time), &mut lost.readings);
         }
     }
-    lost
+    (lost, waits)
 }
 
-// Whether the arm that was served is inside by now: its reading is then due.
-fn is_inside<B: Bank, D: Door>(dispatcher: &Dispatcher<B, D>, arm: usize) -> bool
-    ensures { result ≡ is_inside D.table dispatcher.now.gate arm }
+// The phase in which an arm is by now; none where there is no such arm.
+fn phase_seen<B: Bank, D: Door>(dispatcher: &Dispatcher<B, D>, arm: usize) -> Option<Phase>
+    ensures { result ≡ phase_seen D.table dispatcher.now.gate arm }
 {
-    matches!(dispatcher.gate().look(arm), Ok(view) if view.phase == Phase::F)
+    dispatcher.gate().look(arm).ok().map(|view| view.phase)
 }

@@ -1,23 +1,24 @@
 //! A day at a plant, by a host of the dispatcher: arms that are asked for wait in one ring, readings that were delivered in another.
-//! It prints the readings in the order in which they came, and what the full rings lost; of a day through each door.
+//! It prints the readings in the order in which they came, what the full rings lost, and how long an arm waited at most; of a day through each door.
 #![tactic(auto)]
 
 // What the plant asks for, and what its probes show.
 mod plant;
+// How long arms wait, and how long they can.
+mod waits;
 // The host, with a dispatcher.
 mod host;
 
 use crate::host::day;
-use crate::plant::Lost;
+use crate::plant::{ARMS, Lost};
+use crate::waits::{Waits, promised};
 use bank::ByteBank;
 use dispatcher::{Dispatcher, Reading};
-use doors::{FourValued, ThreeBits};
+use doors::{Door, FourValued, ThreeBits};
 use ring::Ring;
 
 // The gate's number.
 const NUMBER: u16 = 7;
-
-const ARMS: usize = 6;
 
 // The registers of the plant's arms, and those that they take at the four-valued door.
 const REGISTERS: usize = 3 * ARMS + 1;
@@ -31,14 +32,20 @@ const READINGS: usize = 24;
 
 const NO_READING: Reading = Reading { arm: 0, tenths: 0 };
 
-// Takes the readings out, in the order in which they were delivered.
-fn show(rt: &HostRuntime, readings: &mut Ring<Reading>, lost: Lost) -> anyhow::Result<()> {
+// Shows what a day through a door left, and takes the readings out in the order in which they were delivered.
+fn show<D: Door>(
+    rt: &HostRuntime,
+    readings: &mut Ring<Reading>,
+    (lost, waits): (Lost, Waits),
+) -> anyhow::Result<()> {
     let count = readings.len();
     let Lost {
         arms,
         readings: missed,
     } = lost;
     println!(rt; "readings {count} lost {missed} asks lost {arms}")?;
+    let (longest, promised) = (waits.longest, promised::<D>());
+    println!(rt; "longest wait {longest} of {promised} moves")?;
     for _ in 0..count {
         if let Some(Reading { arm, tenths }) = readings.take() {
             println!(rt; "arm {arm} tenths {tenths}")?;
@@ -54,13 +61,13 @@ fn main(rt: HostRuntime) -> anyhow::Result<()> {
     let mut registers = [0u8; REGISTERS];
     let bank = ByteBank::new(&mut registers as &mut [u8]);
     let mut dispatcher = Dispatcher::<_, ThreeBits>::new(bank, NUMBER, ARMS);
-    let lost = day(&mut dispatcher, &mut Ring::over(&mut asked), &mut readings);
-    show(&rt, &mut readings, lost)?;
+    let left = day(&mut dispatcher, &mut Ring::over(&mut asked), &mut readings);
+    show::<ThreeBits>(&rt, &mut readings, left)?;
 
     println!(rt; "through the four-valued door")?;
     let mut registers = [0u8; REGISTERS_FOUR_VALUED];
     let bank = ByteBank::new(&mut registers as &mut [u8]);
     let mut dispatcher = Dispatcher::<_, FourValued>::new(bank, NUMBER, ARMS);
-    let lost = day(&mut dispatcher, &mut Ring::over(&mut asked), &mut readings);
-    show(&rt, &mut readings, lost)
+    let left = day(&mut dispatcher, &mut Ring::over(&mut asked), &mut readings);
+    show::<FourValued>(&rt, &mut readings, left)
 }

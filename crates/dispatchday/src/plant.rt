@@ -6,6 +6,9 @@ ghost use Rattle.dispatchday.specs.Day.{lost_after};
 use dispatcher::Reading;
 use ring::Ring;
 
+// How many arms the plant has.
+pub const ARMS: usize = 6;
+
 // How many moves a day has.
 pub const MOVES: u32 = 700;
 

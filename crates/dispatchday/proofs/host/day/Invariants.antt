@@ -1,4 +1,5 @@
 use Rattle.std.proofs.Common.{◌≡◌}
+use Rattle.dispatchday.specs.Waits.{no_waits}
 use Rattle.dispatchday.specs.Day.{Moved, host, nothing_lost, day_of}
 use Rattle.dispatchday.proofs.host.day.Given as goal
 
@@ -9,5 +10,5 @@ invariant-loop-time g l =
     let start = l.initial in
     record {
       moves : Moved door l.time start.dispatcher l.dispatcher;
-      day : host l.dispatcher l.asked l.readings l.lost ≡ day_of door l.time (host start.dispatcher start.asked start.readings nothing_lost);
+      day : host l.dispatcher l.asked l.readings l.lost l.waits ≡ day_of door l.time (host start.dispatcher start.asked start.readings nothing_lost no_waits);
     }
