@@ -1,7 +1,7 @@
 -- How the potential of a waiting arm changes with a move.
 use Rattle.std.proofs.Common.{◌≡◌, ℕ, ◌+◌, ◌≤◌, Bool, true, false, cond, not, ◌||◌, T, eqb, ◌≢◌, sym, refl, ap, ◌∙◌, subst, arith, eqb→eq}
 use Rattle.std.proofs.lemmas.Bool.Decides.{nat_tests}
-use Rattle.door.proofs.Bools.{same, same_refl, by}
+use Rattle.door.proofs.Bools.{same, same_refl}
 use Rattle.machine.specs.Kinds.{Kind, Place, W2, soon}
 use Rattle.machine.proofs.Machine.{Stance, waits, has, choosing, step_waiting, step_arm, turn_step, Move, step, act, allowed, changed, changed_same, changed_other, changed_le, Machine, moved_to, moved}
 use Rattle.machine.proofs.Invariant.{Own, Inv, Home}

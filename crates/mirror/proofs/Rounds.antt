@@ -1,5 +1,5 @@
 -- Every waiting arm goes inside: in each round its potential falls, or the bound of what the arms with the other side still have to do.
-use Rattle.std.proofs.Common.{◌≡◌, ℕ, zero, suc, ◌+◌, ◌*◌, ◌≤◌, Bool, not, T, eqb, ◌≢◌, ◌⊎◌, List, [], ◌∷◌, ◌++◌, sym, subst, inl, inr, ⊎_elim, arith, eqb→eq}
+use Rattle.std.proofs.Common.{ℕ, zero, suc, ◌+◌, ◌≤◌, Bool, not, T, eqb, ◌≢◌, ◌⊎◌, List, [], ◌∷◌, ◌++◌, sym, subst, inl, inr, ⊎_elim, arith, eqb→eq}
 use Rattle.door.specs.States.{State}
 use Rattle.door.specs.Calls.{after, run}
 use Rattle.door.specs.History.{goes_inside, moves, GoesInside, Moves, Round, Rounds}
@@ -9,9 +9,8 @@ use Rattle.door.specs.Table.{Table}
 use Rattle.door.proofs.Bools.{and_T}
 use Rattle.door.proofs.Accepted.{arm_is}
 use Rattle.door.proofs.Sooner.{goes_left}
-use Rattle.machine.specs.Kinds.{Kind, soon}
-use Rattle.machine.proofs.Machine.{is_begin, Machine, moved}
-use Rattle.machine.proofs.Invariant.{Inv, inv_moved}
+use Rattle.machine.specs.Kinds.{soon}
+use Rattle.machine.proofs.Machine.{is_begin, Machine}
 use Rattle.machine.proofs.Waiting.{Waiting}
 use Rattle.machine.proofs.Potential.{potential, most}
 use Rattle.machine.proofs.Falls.{potential_bound, potential_some}
@@ -44,17 +43,27 @@ module _ {At : Type 0} {door : Table At} (plan : Plan door) where
         still b none y = ⊎_elim (λ x. absurd (none x)) (λ x. x) y
 
         go : Called plan h.sound.machine s c → T (goes_inside door w s c) ⊎ Holds (after door s c) B due
-        go (stays mir none _) = inr (record { sound = same_sound s (after door s c) n h.sound mir; wait = h.wait; bound = h.bound; below = h.below;
-            low = ⊎_elim (λ l. inl l) (λ x. inr (x.0, due_same before due (λ b. still b (subst T (none b))) h.sound.machine w sd h.bound x.1)) h.low })
+        go (stays mir none _) = inr (record {
+          sound = same_sound s (after door s c) n h.sound mir;
+          wait = h.wait;
+          bound = h.bound;
+          below = h.below;
+          low = ⊎_elim (λ l. inl l) (λ x. inr (x.0, due_same before due (λ b. still b (subst T (none b))) h.sound.machine w sd h.bound x.1)) h.low;
+        })
         go (goes m i lo hi k mir mine st _) =
             let g : Machine = h.sound.machine in
             let v = h.wait in
             let e = h.sound.arms_are in
             let others : (b : ℕ) → b ≢ i → before b → due b = λ b ne. still b (λ t. ne (sym (eqb→eq i b (and_T (not (is_begin m)) (eqb i b) (subst T (mine b) t)).1))) in
             ⊎_elim (λ x. inl (entry_goes w sd s g wlo (omega arith) h.sound.mirror v c m i mir st x))
-            (λ x. inr (record { sound = moved_sound s (after door s c) n h.sound m i lo hi mir; wait = x.0; bound = h.bound; below = below_moved g h.sound.keeps w sd v.0 v.1 v.2 m i h.bound h.below;
-            low = ⊎_elim (λ l. inl (let y = x.1 in omega arith))
-            (λ l. ⊎_elim (λ f. inl (let z = l.0 in omega arith)) (λ d. inr ((let y = x.1 in let z = l.0 in omega arith), d)) (due_moves g h.sound.keeps w sd v.0 v.1 v.2 m i k h.bound h.below before due others l.1)) h.low }))
+            (λ x. inr (record {
+              sound = moved_sound s (after door s c) n h.sound m i lo hi mir;
+              wait = x.0;
+              bound = h.bound;
+              below = below_moved g h.sound.keeps w sd v.0 v.1 v.2 m i h.bound h.below;
+              low = ⊎_elim (λ l. inl (let y = x.1 in omega arith))
+                  (λ l. ⊎_elim (λ f. inl (let z = l.0 in omega arith)) (λ d. inr ((let y = x.1 in let z = l.0 in omega arith), d)) (due_moves g h.sound.keeps w sd v.0 v.1 v.2 m i k h.bound h.below before due others l.1)) h.low;
+            }))
             (move_waits g h.sound.keeps w sd v.0 v.1 v.2 m i k)
 
     calls_hold : (cs : List Call) (s : State At) (B : ℕ) → Holds s B (λ b. Moves door b s cs) → GoesInside door w s cs ⊎ Holds (run door s cs) B (λ b. ⊥)
