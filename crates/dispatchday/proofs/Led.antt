@@ -1,16 +1,15 @@
 -- A move more, and a turn more.
 use Rattle.std.proofs.lemmas.List.{length_push}
 use Rattle.std.specs.Prelude.{ℤ, pos, ◌-ℤ◌}
-use Rattle.std.proofs.Common.{◌≡◌, ◌≢◌, ℕ, zero, ◌+◌, List, [], ◌∷◌, ◌++◌, Some, None, Option, add-one, sym, refl, ap, ◌∙◌}
+use Rattle.std.proofs.Common.{◌≡◌, ℕ, zero, ◌+◌, true, false, cond, List, [], ◌∷◌, ◌++◌, Some, None, Option, add-one, sym, refl, ap, ◌∙◌}
 use Rattle.door.specs.Table.{Table}
 use Rattle.door.specs.declared.phase.Phase.{Phase}
-use Rattle.door.specs.declared.phase.Phase.TheVariants as P
 use Rattle.dispatcher.specs.Dispatchers.{Dispatch}
 use Rattle.dispatcher.specs.Law.{moves}
 use Rattle.dispatcher.specs.Moves.{ring_after, moved}
 use Rattle.dispatcher.specs.declared.reading.Reading.{Reading}
 use Rattle.ring.specs.Rings.{Held, items, put_in}
-use Rattle.dispatchday.specs.Day.{Moved, Host, host, lost_after, with_ask, with_reading, after_move, arm_served, phase_seen, delivered, looked, turned, day_of}
+use Rattle.dispatchday.specs.Day.{Moved, Host, host, lost_after, with_ask, with_reading, after_move, arm_served, phase_seen, seen_inside, delivered, looked, turned, day_of}
 use Rattle.dispatchday.specs.Plant.{asked_at, shown_at, reading_at}
 use Rattle.dispatchday.specs.Waits.{noted}
 use Rattle.dispatchday.specs.declared.plant.Lost.{Lost}
@@ -38,7 +37,7 @@ module _ {At : Type 0} where
       ap (λ a. host d a readings then waits) same ∙ ap (λ l. host d asked readings l waits) kept ∙ sym (ap (λ o. with_ask o (host d asked readings lost waits)) none)
 
   -- a reading is delivered, or none is due
-  pub one_delivered : (d : Dispatch At) (asked : Held ℕ) (readings after : Held Reading) (lost then : Lost) (waits : Waits) (count arm time : ℕ) (seen : Option Phase) (x : Reading) → seen ≡ Some P.F
+  pub one_delivered : (d : Dispatch At) (asked : Held ℕ) (readings after : Held Reading) (lost then : Lost) (waits : Waits) (count arm time : ℕ) (seen : Option Phase) (x : Reading) → seen_inside seen ≡ true
       → x.arm ≡ arm → x.tenths ≡ pos (shown_at arm time) -ℤ pos 200 → after ≡ put_in x readings → count ≡ lost_after readings lost.readings → then ≡ record lost { readings = count }
       → host d asked after then waits ≡ delivered seen arm time (host d asked readings lost waits)
   one_delivered d asked readings after lost then waits count arm time seen x inside own shown put counted is =
@@ -47,21 +46,13 @@ module _ {At : Type 0} where
       ap (λ r. host d asked r then waits) put
       ∙ ap (λ l. host d asked (put_in x readings) l waits) (is ∙ ap with_readings counted)
       ∙ ap (λ y. with_reading y h) (reading_is x arm time own shown)
-      ∙ sym (ap (λ p. delivered p arm time h) inside)
+      ∙ sym (ap (λ b. cond b (with_reading (reading_at arm time) h) h) inside)
 
-  -- an arm that is not seen inside gives none
-  not_inside : (seen : Option Phase) (arm time : ℕ) (h : Host At) → seen ≢ Some P.F → h ≡ delivered seen arm time h
-  not_inside None arm time h outside = refl
-  not_inside (Some P.I) arm time h outside = refl
-  not_inside (Some P.D) arm time h outside = refl
-  not_inside (Some P.W) arm time h outside = refl
-  not_inside (Some P.F) arm time h outside = absurd (outside refl)
-  not_inside (Some P.X) arm time h outside = refl
-
-  pub none_delivered : (d : Dispatch At) (asked : Held ℕ) (readings after : Held Reading) (lost then : Lost) (waits : Waits) (arm time : ℕ) (seen : Option Phase) → seen ≢ Some P.F → after ≡ readings → then ≡ lost
+  pub none_delivered : (d : Dispatch At) (asked : Held ℕ) (readings after : Held Reading) (lost then : Lost) (waits : Waits) (arm time : ℕ) (seen : Option Phase) → seen_inside seen ≡ false → after ≡ readings → then ≡ lost
       → host d asked after then waits ≡ delivered seen arm time (host d asked readings lost waits)
   none_delivered d asked readings after lost then waits arm time seen outside same kept =
-      ap (λ r. host d asked r then waits) same ∙ ap (λ l. host d asked readings l waits) kept ∙ not_inside seen arm time (host d asked readings lost waits) outside
+      let h = host d asked readings lost waits in
+      ap (λ r. host d asked r then waits) same ∙ ap (λ l. host d asked readings l waits) kept ∙ sym (ap (λ b. cond b (with_reading (reading_at arm time) h) h) outside)
 
   -- the arm that was served is seen
   pub one_looked : (d : Dispatch At) (asked : Held ℕ) (readings : Held Reading) (lost : Lost) (waits after : Waits) (seen now : Option Phase) (arm time : ℕ) (next : Host At) → seen ≡ now → after ≡ noted arm time seen waits

@@ -1,5 +1,5 @@
 -- What a day does, and what full rings lose.
-use Rattle.std.specs.Prelude.{◌≡◌, ℕ, zero, suc, ◌+◌, ◌-◌, ◌^◌, min, if◌then◌else◌, List, length, Some, None, Option}
+use Rattle.std.specs.Prelude.{◌≡◌, ℕ, zero, suc, ◌+◌, ◌-◌, ◌^◌, min, Bool, true, false, if◌then◌else◌, List, length, Some, None, Option}
 use Rattle.door.specs.States.{State, is_arm, phase_at}
 use Rattle.door.specs.Table.{Table}
 use Rattle.door.specs.declared.phase.Phase.{Phase}
@@ -30,6 +30,11 @@ lost_after ring lost = if has_room ring.span ring.slots then lost else min (lost
 abbrev pub nothing_lost : Lost
 nothing_lost = record { arms = 0; readings = 0 }
 
+-- whether an arm that is seen in a phase, or in none, is inside
+abbrev pub seen_inside : Option Phase → Bool
+seen_inside (Some P.F) = true
+seen_inside seen = false
+
 -- a host at work: its dispatcher, the ring of the arms that are asked for, that of the readings, what the two lost so far, and how long arms waited
 pub record Host (At : Type 0) : Type 0 where
   pub dispatcher : Dispatch At
@@ -53,8 +58,7 @@ module _ {At : Type 0} where
 
   -- where an arm is seen inside, its reading is delivered
   abbrev pub delivered : Option Phase → ℕ → ℕ → Host At → Host At
-  delivered (Some P.F) arm time h = with_reading (reading_at arm time) h
-  delivered seen arm time h = h
+  delivered seen arm time h = if seen_inside seen then with_reading (reading_at arm time) h else h
 
   -- the arm that was served is seen: its wait may begin or end, and its reading be delivered
   abbrev pub looked : Option Phase → ℕ → ℕ → Host At → Host At

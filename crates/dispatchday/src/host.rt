@@ -1,6 +1,6 @@
 ghost use Rattle.std.specs.Prelude.{◌≡◌};
 ghost use Rattle.dispatchday.specs.Waits.{no_waits};
-ghost use Rattle.dispatchday.specs.Day.{Moved, day_moves, host, nothing_lost, phase_seen, day_of};
+ghost use Rattle.dispatchday.specs.Day.{Moved, day_moves, host, nothing_lost, phase_seen, seen_inside, day_of};
 
 use crate::plant::{Lost, MOVES, NOTHING_LOST, asks, measure, put_or_lose};
 use crate::waits::Waits;
@@ -29,7 +29,7 @@ pub fn day<B: Bank, D: Door>(
         let arm = dispatcher.make_move(asked);
         let seen = phase_seen(dispatcher, arm);
         waits.note(arm, time, seen);
-        if seen == Some(Phase::F) {
+        if is_inside(seen) {
             put_or_lose(readings, measure(arm, time), &mut lost.readings);
         }
     }
@@ -41,4 +41,11 @@ fn phase_seen<B: Bank, D: Door>(dispatcher: &Dispatcher<B, D>, arm: usize) -> Op
     ensures { result ≡ phase_seen D.table dispatcher.now.gate arm }
 {
     dispatcher.gate().look(arm).ok().map(|view| view.phase)
+}
+
+// Whether an arm that is seen in this phase is inside: its reading is then due.
+fn is_inside(seen: Option<Phase>) -> bool
+    ensures { result ≡ seen_inside seen }
+{
+    seen == Some(Phase::F)
 }

@@ -1,17 +1,16 @@
-use Rattle.std.proofs.Common.{◌≡◌, ◌≢◌, Some, ap, sym, ◌∙◌, rules, arith}
-use Rattle.door.specs.declared.phase.Phase.TheVariants as P
+use Rattle.std.proofs.Common.{◌≡◌, ap, sym, ◌∙◌, rules}
 use Rattle.dispatchday.specs.Day.{host, with_ask, phase_seen, delivered}
 use Rattle.dispatchday.specs.Plant.{asked_at}
 use Rattle.dispatchday.proofs.Led.{one_move, one_asks, none_asks, one_made, one_delivered, none_delivered, one_looked, one_turn, day_start, day_on}
 use Rattle.dispatchday.proofs.host.day.Given.{Over}
 use Rattle.dispatchday.proofs.host.day.Goals as goal
-use Rattle.dispatchday.proofs.host.day.Goals.{in-Some, in_default, then-eq, else-eq}
+use Rattle.dispatchday.proofs.host.day.Goals.{in-Some, in_default, then-is_inside, else-is_inside}
 
 pub loop-time-init : goal.loop-time-init
 loop-time-init g c = record { moves = search rules; day = ap (host c.args.dispatcher.now c.args.asked.now c.args.readings.now _) c.none-waits.ensures ∙ day_start g.D.Door.table _ }
 
 -- who asks is put into the ring
-asks : (g : Over) (c : goal.Joined-eq g)
+asks : (g : Over) (c : goal.Joined-is_inside g)
     → host c.loop-time.dispatcher c.match-asks.asked c.loop-time.readings c.match-asks.lost c.loop-time.waits
     ≡ with_ask (asked_at c.loop-time.time) (host c.loop-time.dispatcher c.loop-time.asked c.loop-time.readings c.loop-time.lost c.loop-time.waits)
 asks g c =
@@ -24,24 +23,19 @@ asks g c =
     ]
 
 -- a reading that is due is delivered
-due : (g : Over) (c : goal.Joined-eq g)
-    → host c.make_move-arm.new.self c.make_move-arm.new.asked c.if-eq.readings c.if-eq.lost c.note.new.self
+due : (g : Over) (c : goal.Joined-is_inside g)
+    → host c.make_move-arm.new.self c.make_move-arm.new.asked c.if-is_inside.readings c.if-is_inside.lost c.note.new.self
     ≡ delivered c.phase_seen-seen.result c.make_move-arm.result c.loop-time.time (host c.make_move-arm.new.self c.make_move-arm.new.asked c.loop-time.readings c.match-asks.lost c.note.new.self)
 due g c =
     let at = c.loop-time in
     let move = c.make_move-arm in
     let seen = c.phase_seen-seen.result in
-    let tells = c.eq.ensures in
-    elim c.if-eq.branch [
-      | then-eq w ↦
-          let yes = w.if-eq.true in
-          let inside : seen ≡ Some P.F = grind arith in
-          one_delivered move.new.self move.new.asked at.readings c.if-eq.readings c.match-asks.lost c.if-eq.lost c.note.new.self w.put_or_lose-then-eq.new.lost move.result at.time seen
-          w.measure.result inside w.measure.ensures.arm w.measure.ensures.tenths (w.readings-is ∙ w.put_or_lose-then-eq.ensures.ring) w.put_or_lose-then-eq.ensures.lost w.lost-is
-      | else-eq w ↦
-          let no = w.if-eq.false in
-          let outside : seen ≢ Some P.F = λ is. (let kept : ⊥ = grind arith in kept) in
-          none_delivered move.new.self move.new.asked at.readings c.if-eq.readings c.match-asks.lost c.if-eq.lost c.note.new.self move.result at.time seen outside w.readings-is w.lost-is
+    let inside = sym c.is_inside.ensures in
+    elim c.if-is_inside.branch [
+      | then-is_inside w ↦ one_delivered move.new.self move.new.asked at.readings c.if-is_inside.readings c.match-asks.lost c.if-is_inside.lost c.note.new.self w.put_or_lose-then-is_inside.new.lost move.result at.time seen
+          w.measure.result (inside ∙ w.if-is_inside.true) w.measure.ensures.arm w.measure.ensures.tenths (w.readings-is ∙ w.put_or_lose-then-is_inside.ensures.ring) w.put_or_lose-then-is_inside.ensures.lost w.lost-is
+      | else-is_inside w ↦ none_delivered move.new.self move.new.asked at.readings c.if-is_inside.readings c.match-asks.lost c.if-is_inside.lost c.note.new.self move.result at.time seen
+          (inside ∙ w.if-is_inside.false) w.readings-is w.lost-is
     ]
 
 pub loop-time-preserved : goal.loop-time-preserved
