@@ -70,7 +70,7 @@ module _ {At : Type 0} {door : Table At} (plan : Plan door) where
     calls_hold [] s B h = inr h
     calls_hold (c ∷ cs) s B h = ⊎_elim (λ x. inl (inl x)) (λ h'. ⊎_elim (λ y. inl (inr y)) (λ y. inr y) (calls_hold cs (after door s c) B h')) (call_holds s B c (λ b. Moves door b (after door s c) cs) h)
 
-    -- at the end of a round the sum is B, so the next one owes something
+    -- at the end of a round the sum is B at most, so the next one owes something
     ended : (s : State At) (B : ℕ) (h : Holds s B (λ b. ⊥)) → (M : ℕ) × Below h.sound.machine sd M × (potential sd h.sound.machine w + M ≤ B)
     ended s B h = ⊎_elim (λ l. (h.bound, h.below, l)) (λ x. let y = due_ends h.sound.machine w sd h.bound x.1 in (y.0, y.2, (let l = y.1 in let z = x.0 in omega arith))) h.low
 
