@@ -64,5 +64,5 @@ module _ {At : Type 0} (door : Table At) where
   serving_spent s (Some i) u = by (λ cs. NoPassOut door (run door s cs)) (is_inside door s i) _ _ (λ y. admitted_left s i y u)
       (λ _. unless_both (refusal_of door s (Step i)) (stepped door i s) s (NoPassOut door) (λ _. stepped_so s i u) u)
 
-  pub started_spent : (memory : Lent) (high number wanted : ℕ) (regs : List ℕ) → NoPassOut door (made door memory high number wanted regs)
-  started_spent memory high number wanted regs i = fresh_unmarked arm_limit (i - 1)
+  pub started_spent : (making : Making) → NoPassOut door (made door making)
+  started_spent making i = fresh_unmarked arm_limit (i - 1)

@@ -13,7 +13,7 @@ pub record Dispatch (At : Type 0) : Type 0 where
 module _ {At : Type 0} (door : Table At) where
   -- a dispatcher just made
   abbrev pub started : Lent → ℕ → ℕ → ℕ → List ℕ → Dispatch At
-  started memory high number wanted regs = record { gate = made door memory high number wanted regs; last = 0 }
+  started making = record { gate = made door making; last = 0 }
 
   -- no pass is out
   abbrev pub NoPassOut : State At → Type 0

@@ -1,13 +1,13 @@
 -- The index of an arm of any gate that calls lead to.
-use Rattle.std.proofs.Common.{◌≡◌, ℕ, ◌≤◌, ◌&&◌, T, eqb, leb, ◌⊎◌, inl, inr, subst, ⊎_elim, arith}
+use Rattle.std.proofs.Common.{◌≡◌, ℕ, ◌≤◌, ◌&&◌, T, eqb, leb, ◌⊎◌, inl, inr, ⊎_elim, arith}
 use Rattle.std.proofs.lemmas.Bool.Decides.{nat_tests}
-use Rattle.std.proofs.lemmas.Grind.{not_there}
 use Rattle.door.specs.Indexes.{IndexFits, ShowsIndexes}
 use Rattle.door.specs.Law.{IsReached}
 use Rattle.door.specs.States.{State, is_arm, arm_at, phase_at}
 use Rattle.door.specs.Table.{Table}
 use Rattle.door.specs.declared.phase.Phase.{Phase}
 use Rattle.door.specs.declared.phase.Phase.TheVariants as P
+use Rattle.door.proofs.Always.{at_origin, at_reached}
 use Rattle.door.proofs.Bools.{test}
 
 -- whether an index fits is decided, so any origin will do
@@ -24,7 +24,5 @@ decided n p j = none j
 pub index_fits : {At : Type 0} (door : Table At) → ShowsIndexes door → (s : State At) → IsReached door s → (i : ℕ) → T (is_arm s i)
     → IndexFits s.n (phase_at door s i) (door.index (arm_at door s i).position)
 index_fits door shown s reached i h =
-    ⊎_elim (λ f. f)
-    (λ n. absurd (not_there reached (λ p. n
-    (subst (λ t. T (is_arm t i) → IndexFits t.n (phase_at door t i) (door.index (arm_at door t i).position)) p.leads (shown p.memory p.high p.number p.wanted p.regs p.calls i) h))))
-    (decided s.n (phase_at door s i) (door.index (arm_at door s i).position))
+    at_reached door (decided s.n (phase_at door s i) (door.index (arm_at door s i).position))
+    (λ p. at_origin door (λ t. (i : ℕ) → T (is_arm t i) → IndexFits t.n (phase_at door t i) (door.index (arm_at door t i).position)) shown s p i h) reached

@@ -1,8 +1,7 @@
 -- The access of an accepted step can be made, where the door's accesses stay in the room: its register is there, and its value is taken.
-use Rattle.std.proofs.Common.{◌≡◌, ℕ, ◌≤◌, T, IsTrue, eqb, List, length, None, sym, refl, ap, ◌∙◌, subst, ⊎_elim, arith}
+use Rattle.std.proofs.Common.{◌≡◌, ℕ, ◌≤◌, T, IsTrue, eqb, List, length, None, sym, refl, ap, ◌∙◌, subst, arith}
 use Rattle.std.proofs.lemmas.Bool.{cond_both}
 use Rattle.std.proofs.lemmas.Bool.Decides.{nat_tests}
-use Rattle.std.proofs.lemmas.Grind.{not_there}
 use Rattle.door.specs.Table.{Table}
 use Rattle.door.specs.Accesses.{can_make, InRoom, ShowsAccesses}
 use Rattle.door.specs.Calls.{refusal_of, step_refusal, access_at}
@@ -13,7 +12,8 @@ use Rattle.door.specs.States.{State, made, phase_at}
 use Rattle.door.specs.declared.access.Access.{Access}
 use Rattle.door.specs.declared.call.Call.TheVariants.{Step as step}
 use Rattle.door.proofs.Accepted.{known_arm}
-use Rattle.door.proofs.Bools.{test, clash, is_true}
+use Rattle.door.proofs.Always.{at_origin, true_at}
+use Rattle.door.proofs.Bools.{is_true}
 use Rattle.door.proofs.Rooms.{arms_fit, length_cleared}
 use Rattle.door.proofs.Runs.{run_n, run_high, run_regs}
 
@@ -24,11 +24,12 @@ module _ {At : Type 0} (door : Table At) where
   -- a gate with arms has the registers that they take, with the values that they need
   pub has_room : (s : State At) → Origin door s → 1 ≤ s.n → (door.room s.n ≤ length s.regs) × (door.needed ≤ s.high)
   has_room s p some =
-      let start : State At = made door p.memory p.high p.number p.wanted p.regs in
+      let making = p.making in
+      let start : State At = made door making in
       let size : s.n ≡ start.n = sym (ap (λ t. t.n) p.leads) ∙ run_n door p.calls start in
-      let high : s.high ≡ p.high = sym (ap (λ t. t.high) p.leads) ∙ run_high door p.calls start in
-      let fit = arms_fit door p.high (length p.regs) p.wanted (omega arith) in
-      let len : length s.regs ≡ length p.regs = sym (ap (λ t. length t.regs) p.leads) ∙ (run_regs door p.calls start ∙ made_length start.n p.regs fit.0) in
+      let high : s.high ≡ making.high = sym (ap (λ t. t.high) p.leads) ∙ run_high door p.calls start in
+      let fit = arms_fit door making.high (length making.regs) making.wanted (omega arith) in
+      let len : length s.regs ≡ length making.regs = sym (ap (λ t. length t.regs) p.leads) ∙ (run_regs door p.calls start ∙ made_length start.n making.regs fit.0) in
       (let x = fit.0 in subst (λ k. door.room k ≤ length s.regs) (sym size) (omega arith), let x = fit.1 in omega arith)
 
   in_room : (s : State At) (a : Access) → door.room s.n ≤ length s.regs → door.needed ≤ s.high → InRoom door s.n a → T (can_make s a)
@@ -39,7 +40,7 @@ module _ {At : Type 0} (door : Table At) (shown : ShowsAccesses door) where
   pub accesses_one : (s : State At) (i : ℕ) → Origin door s → refusal_of door s (step i) ≡ None → InRoom door s.n (access_at door s i)
   accesses_one s i p e =
       let yes : T (accepted door s (step i)) = subst (λ x. T (no_refusal x)) (sym e) tt in
-      subst (λ t. T (accepted door t (step i)) → InRoom door t.n (access_at door t i)) p.leads (shown p.memory p.high p.number p.wanted p.regs p.calls i) yes
+      at_origin door (λ t. (i : ℕ) → T (accepted door t (step i)) → InRoom door t.n (access_at door t i)) shown s p i yes
 
   pub from_origin : (s : State At) (i : ℕ) → Origin door s → refusal_of door s (step i) ≡ None → T (can_make s (access_at door s i))
   from_origin s i p e =
@@ -48,8 +49,4 @@ module _ {At : Type 0} (door : Table At) (shown : ShowsAccesses door) where
       in_room door s (access_at door s i) room.0 room.1 (accesses_one s i p e)
 
   pub makeable : (s : State At) (i : ℕ) → IsReached door s → refusal_of door s (step i) ≡ None → IsTrue (can_make s (access_at door s i))
-  makeable s i reached e =
-      ⊎_elim
-      (is_true (can_make s (access_at door s i)))
-      (λ d. absurd (not_there reached (λ p. clash (can_make s (access_at door s i)) (from_origin s i p e) d)))
-      (test (can_make s (access_at door s i)))
+  makeable s i reached e = is_true (can_make s (access_at door s i)) (true_at door (can_make s (access_at door s i)) (λ p. from_origin s i p e) reached)

@@ -2,7 +2,7 @@
 use Rattle.std.proofs.Common.{◌≡◌, ℕ, ◌+◌, ◌<◌, length, get_or, take, List, [], ◌∷◌, ◌++◌, sym, refl, ap, ◌∙◌}
 use Rattle.std.proofs.lemmas.List.{take_more}
 use Rattle.std.proofs.Math.Logic.{∥∥₁_map}
-use Rattle.bank.specs.Lent.{Lent}
+use Rattle.door.specs.Making.{Making}
 use Rattle.door.specs.Table.{Table}
 use Rattle.door.specs.Calls.{after, run}
 use Rattle.door.specs.Law.{Origin, IsReached}
@@ -17,22 +17,18 @@ module _ {At : Type 0} (door : Table At) where
   pub run_more : (s : State At) (cs : List Call) (i : ℕ) (d : Call) → i < length cs → run door s (take (i + 1) cs) ≡ after door (run door s (take i cs)) (get_or cs i d)
   run_more s cs i d l = ap (run door s) (take_more cs i d l) ∙ run_append (take i cs) (get_or cs i d ∷ []) s
 
-  pub origin_made : (memory : Lent) (high number wanted : ℕ) (regs : List ℕ) (s : State At) → s ≡ made door memory high number wanted regs → Origin door s
-  origin_made memory high number wanted regs s e = record { memory = memory; high = high; number = number; wanted = wanted; regs = regs; calls = []; leads = sym e }
+  pub origin_made : (making : Making) (s : State At) → s ≡ made door making → Origin door s
+  origin_made making s e = record { making = making; calls = []; leads = sym e }
 
   pub origin_after : (s : State At) (c : Call) (t : State At) → t ≡ after door s c → Origin door s → Origin door t
   origin_after s c t e p = record {
-    memory = p.memory;
-    high = p.high;
-    number = p.number;
-    wanted = p.wanted;
-    regs = p.regs;
+    making = p.making;
     calls = p.calls ++ c ∷ [];
-    leads = run_append p.calls (c ∷ []) (made door p.memory p.high p.number p.wanted p.regs) ∙ ap (λ x. after door x c) p.leads ∙ sym e;
+    leads = run_append p.calls (c ∷ []) (made door p.making) ∙ ap (λ x. after door x c) p.leads ∙ sym e;
   }
 
-  pub reached_made : (memory : Lent) (high number wanted : ℕ) (regs : List ℕ) (s : State At) → s ≡ made door memory high number wanted regs → IsReached door s
-  reached_made memory high number wanted regs s e = ∣ origin_made memory high number wanted regs s e ∣₁
+  pub reached_made : (making : Making) (s : State At) → s ≡ made door making → IsReached door s
+  reached_made making s e = ∣ origin_made making s e ∣₁
 
   pub reached_after : (s : State At) (c : Call) (t : State At) → t ≡ after door s c → IsReached door s → IsReached door t
   reached_after s c t e reached = ∥∥₁_map reached (origin_after s c t e)

@@ -1,5 +1,5 @@
 -- The row and notes of an arm are what the history tells of its latest wait.
-use Rattle.std.proofs.Common.{◌≡◌, ℕ, ◌+◌, ◌-◌, ◌<◌, ◌≤◌, min, Bool, true, false, cond, not, ◌&&◌, T, eqb, ◌≢◌, ◌⊎◌, List, [], ◌∷◌, map, length, get_or, set, replicate, None, sym, refl, ap, ◌∙◌, subst, ⊎_elim, arith}
+use Rattle.std.proofs.Common.{◌≡◌, ℕ, ◌+◌, ◌-◌, ◌<◌, ◌≤◌, min, Bool, true, false, cond, not, ◌&&◌, T, eqb, ◌≢◌, ◌⊎◌, List, [], ◌∷◌, map, length, get_or, set, replicate, sym, refl, ap, ◌∙◌, subst, ⊎_elim, arith}
 use Rattle.std.proofs.lemmas.Grind.{get_or-set_at}
 use Rattle.std.proofs.lemmas.Bool.Decides.{nat_tests}
 use lib.Dec.{eqb_refl}
@@ -8,22 +8,22 @@ use Rattle.std.proofs.lemmas.List.{length-replicate, get_or-replicate, length-se
 use Rattle.door.specs.Limits.{arm_limit, tally_limit}
 use Rattle.door.specs.Arms.{no_arm}
 use Rattle.door.specs.States.{State, arm_at, phase_at, with_arm}
-use Rattle.door.specs.Calls.{refusal_of, step_refusal, with_visit, arm_after, stepped, done, after, run}
-use Rattle.door.specs.History.{no_refusal, is_in, step_of, steps, ends_doorway, goes_inside, entries_before, latest_lost, count_on, latest_idle}
+use Rattle.door.specs.Calls.{with_visit, arm_after, stepped, after, run}
+use Rattle.door.specs.History.{is_in, step_of, ends_doorway, goes_inside, entries_before, latest_lost, count_on, latest_idle}
 use Rattle.door.specs.declared.arm.Arm.{Arm}
 use Rattle.door.specs.declared.call.Call.{Call}
-use Rattle.door.specs.declared.call.Call.TheVariants.{Begin, Step, Admit, Confirm, Leave, Look, Tally, Way}
 use Rattle.door.proofs.Bools.{by, is_true, T_or_left}
 use Rattle.door.specs.Table.{Table}
 use Rattle.door.specs.Phases.{same_phase}
 use Rattle.door.specs.Tallies.{with_row, counted, is_idle, tallied}
-use Rattle.door.specs.Rules.{Phased}
+use Rattle.door.specs.Rules.{Phased, ShowsRules}
 use Rattle.door.specs.declared.phase.Phase.{Phase}
 use Rattle.door.specs.declared.phase.Phase.TheVariants as P
-use Rattle.door.proofs.Accepted.{known_arm, by_answer}
+use Rattle.door.proofs.Bounds.{all_there}
+use Rattle.door.proofs.Effects.{begins, admits, leaves, Does, nothing, visits, steps, does, no_step}
 use Rattle.door.proofs.Seen.{tallied_table}
 use Rattle.door.proofs.Passed.{Passed, passed_call, bound, waiting_call}
-use Rattle.door.proofs.Runs.{after_n, after_length}
+use Rattle.door.proofs.Runs.{after_n}
 
 -- what a call makes of the count r of b in w's latest wait, and of the count k since w ended its doorway:
 -- w ends its doorway by it (E), waited before it (V) and after it (W), or goes inside by it (I); b goes inside by it (G)
@@ -180,29 +180,21 @@ module _ {At : Type 0} (door : Table At) where
             rw (E, e) (other_kept Z (passes (stepped door i s) (λ v. eqb i v)) (λ t. grind (arith, nat_tests)) (λ d ib z t. grind (arith, nat_tests)))
 
       -- any call
-      by_refusal : (c : Call) (k : ℕ) (o : Bool) → Row b (arm_at door s w) k o → (refusal_of door s c ≡ None → Told (done door s c) (λ v. step_of v c) k o) → Told (after door s c) (λ v. no_refusal (refusal_of door s c) && step_of v c) k o
-      by_refusal c k o h f = by_answer (refusal_of door s c) (done door s c) s (λ t y. Told t (λ v. y && step_of v c) k o) f h
-
-      row_call : s.n ≡ n → (c : Call) (k : ℕ) (o : Bool) → k ≤ 2 → Row b (arm_at door s w) k o → Told (after door s c) (λ v. steps door v s c) k o
-      row_call sn (Begin i) k o low h = by_refusal (Begin i) k o h (λ e. visit_row i door.entry _ _ k o h)
-      row_call sn (Admit i) k o low h = by_refusal (Admit i) k o h (λ e. visit_row i (arm_at door s i).position _ _ k o h)
-      row_call sn (Leave z i) k o low h = by_refusal (Leave z i) k o h (λ e. visit_row i door.exit _ _ k o h)
-      row_call sn (Confirm z i) k o low h = h
-      row_call sn (Look i) k o low h = by_refusal (Look i) k o h (λ e. h)
-      row_call sn (Tally i j) k o low h = by_refusal (Tally i j) k o h (λ e. h)
-      row_call sn (Way i) k o low h = by_refusal (Way i) k o h (λ e. h)
-      row_call sn (Step i) k o low h = by_refusal (Step i) k o h (λ e.
-          let r = known_arm s i (step_refusal (phase_at door s i)) e in
-          let hi : i ≤ n = let y = r.1 in omega arith in
-          ⊎_elim
+      row_call : s.n ≡ n → (k : ℕ) (o : Bool) → k ≤ 2 → Row b (arm_at door s w) k o → (c : Call) (ok : Bool) (t : State At) → Does door s c ok t → Told t (λ v. ok && step_of v c) k o
+      row_call sn k o low h c ok t (nothing idles) = let x = no_step c ok idles w in let y = no_step c ok idles b in rw (x, y) h
+      row_call sn k o low h c ok t (visits _ (begins {i = i} _ _)) = visit_row i door.entry _ _ k o h
+      row_call sn k o low h c ok t (visits _ (admits {i = i} _)) = visit_row i (arm_at door s i).position _ _ k o h
+      row_call sn k o low h c ok t (visits _ (leaves {i = i} _ _)) = visit_row i door.exit _ _ k o h
+      row_call sn k o low h c ok t (steps {i = i} known _ _) = ⊎_elim
           (λ q. subst (λ j. Told (stepped door j s) (λ v. eqb j v) k o) (sym q) (own_step k o h))
-          (λ ne. other_step i r.0 hi ne k o low h) (cases_eq i w))
+          (λ ne. other_step i known.0 (let y = known.1 in omega arith) ne k o low h)
+          (cases_eq i w)
 
-    module _ (phased : Phased door) where
-      pub kept_run : (cs : List Call) (s : State At) → s.n ≡ n → n ≤ length s.arms → (r k : ℕ) (o : Bool) → Passed door w b s k o → Kept door w b s r k o
+    module _ (phased : Phased door) (rules : ShowsRules door) where
+      pub kept_run : (cs : List Call) (s : State At) → s.n ≡ n → (r k : ℕ) (o : Bool) → Passed door w b s k o → Kept door w b s r k o
           → Kept door w b (run door s cs) (latest_lost door w b s cs (cond (is_in door P.W s w) (r + entries_before door w b s cs) r)) (count_on door w b s cs k) (latest_idle door w b s cs o)
-      kept_run [] s sn table r k o past h = let e : cond (is_in door P.W s w) (r + 0) r ≡ r = grind arith in rw e h
-      kept_run (c ∷ cs) s sn table r k o past h =
+      kept_run [] s sn r k o past h = let e : cond (is_in door P.W s w) (r + 0) r ≡ r = grind arith in rw e h
+      kept_run (c ∷ cs) s sn r k o past h =
           let t = after door s c in
           let E = ends_doorway door w s c in
           let I = goes_inside door w s c in
@@ -211,16 +203,17 @@ module _ {At : Type 0} (door : Table At) where
           let W = is_in door P.W t w in
           let whi' : w ≤ s.n = omega arith in
           let bhi' : b ≤ s.n = omega arith in
-          let moves = waiting_call door phased s c w wlo whi' (past.ruled [] c) in
+          let table = all_there door s past.origin in
+          let moves = waiting_call door phased s past.origin c w wlo whi' rules in
           let starts : T E → T W = λ x. grind arith in
           let over : T I → T W → ⊥ = λ x y. grind arith in
-          let past' = passed_call door phased w b wlo blo s whi' bhi' k o past c in
+          let past' = passed_call door phased rules w b wlo blo s whi' bhi' k o past c in
           let bound' : T W → _ = λ y. bound door w b t wlo (let z = after_n door s c in omega arith) _ _ past' (T_or_left W _ y) in
           let x = entries_before door w b t cs in
           rw (onward E V W I G starts over moves.0 moves.1 r x)
-          (kept_run cs t (after_n door s c ∙ sn) (let z = after_length door s c in omega arith) _ _ _ past'
+          (kept_run cs t (after_n door s c ∙ sn) _ _ _ past'
           (record {
-            row = row_call s table sn c r o h.low.0 h.row;
+            row = row_call s (let z = sn in omega arith) sn r o h.low.0 h.row c _ _ (does door s c);
             since = same_count E V W I G starts over moves.0 moves.1 r k h.since;
             low = few_lost E V W I G starts over moves.0 moves.1 r k (is_in door P.I s b) o h.since h.low bound';
           }))

@@ -1,18 +1,17 @@
 -- Two gates of one door over any two banks, of one number, with as many arms and the same records, go the same way:
 -- what else the banks hold makes no difference.
-use Rattle.std.proofs.Common.{◌≡◌, ℕ, ◌+◌, ◌-◌, ◌<◌, ◌≤◌, T, List, get_or, set, map, drop, length, None, Some, Option, inl, inr, sym, refl, ap, ◌∙◌, subst, true, false, arith}
+use Rattle.std.proofs.Common.{◌≡◌, ℕ, ◌+◌, ◌-◌, ◌<◌, ◌≤◌, T, List, get_or, set, map, drop, None, Some, Option, inl, inr, sym, refl, ap, ◌∙◌, subst, true, false, arith}
 use Rattle.std.specs.List.{range_with_len}
 use Rattle.std.proofs.lemmas.Bool.{cases_lt}
 use Rattle.std.proofs.lemmas.Bool.Decides.{nat_tests}
 use Rattle.std.proofs.lemmas.List.{get_or-set_same, get_or-set_other, get_or_append_left}
 use Rattle.std.proofs.lemmas.List.FromFn.{length-map-range_with_len}
-use Rattle.bank.specs.Lent.{Lent}
 use Rattle.door.specs.Table.{Table}
 use Rattle.door.specs.Accesses.{can_make, InRoom, ShowsAccesses}
 use Rattle.door.specs.Arms.{no_arm}
 use Rattle.door.specs.Calls.{refusal_of, step_refusal, access_at, done, after, unless, with_visit}
 use Rattle.door.specs.Law.{Origin}
-use Rattle.door.specs.Making.{arms_for, cleared, made_regs}
+use Rattle.door.specs.Making.{Making, arms_of, cleared, made_regs}
 use Rattle.door.specs.Registers.{group, value_read, regs_after}
 use Rattle.door.specs.States.{State, made, arm_at, phase_at, bit_of, with_table, with_arm}
 use Rattle.door.specs.declared.access.Access.{Access}
@@ -55,20 +54,18 @@ module _ {At : Type 0} (door : Table At) where
   made_at : (n q : ℕ) (regs : List ℕ) → 1 ≤ n → q < door.room n → get_or (made_regs door n regs) q 0 ≡ get_or (map door.first (range_with_len 0 (door.room n))) q 0
   made_at n q regs some l = let e = cleared_at (door.room n) q regs l in grind (arith, nat_tests)
 
-  pub made_twins : (lent : Lent) (high number wanted : ℕ) (regs : List ℕ) (lent' : Lent) (high' : ℕ) (regs' : List ℕ)
-      → arms_for door high' (length regs') wanted ≡ arms_for door high (length regs) wanted
-      → Twins (made door lent high number wanted regs) (made door lent' high' number wanted regs')
-  made_twins lent high number wanted regs lent' high' regs' e = record {
+  pub made_twins : (making other : Making) → other.number ≡ making.number → arms_of door other ≡ arms_of door making → Twins (made door making) (made door other)
+  made_twins making other number e = record {
     same = record {
-      number = refl;
+      number = number;
       n = e;
       arms = refl;
       registers = λ some q l.
-          ap (λ n. get_or (made_regs door n regs') q 0) e
-          ∙ (made_at (arms_for door high (length regs) wanted) q regs' some l ∙ sym (made_at (arms_for door high (length regs) wanted) q regs some l));
+          ap (λ n. get_or (made_regs door n other.regs) q 0) e
+          ∙ (made_at (arms_of door making) q other.regs some l ∙ sym (made_at (arms_of door making) q making.regs some l));
     };
-    origin = origin_made door lent high number wanted regs _ refl;
-    other = origin_made door lent' high' number wanted regs' _ refl;
+    origin = origin_made door making _ refl;
+    other = origin_made door other _ refl;
   }
 
   -- the same calls are refused, for the same reasons

@@ -1,6 +1,6 @@
 -- The fairness of a gate, over any door.
 use Rattle.std.specs.Prelude.{◌≡◌, ℕ, ◌+◌, ◌-◌, ◌*◌, ◌≤◌, Bool, true, false, if◌then◌else◌, not, T, ◌↔◌, List, Some, Ok, Result, slice_index, slice_index_or}
-use Rattle.bank.specs.Lent.{Lent}
+use Rattle.door.specs.Making.{Making}
 use Rattle.door.specs.Table.{Table}
 use Rattle.door.specs.States.{State, made, is_arm, arm_at}
 use Rattle.door.specs.Calls.{run, has_way}
@@ -89,70 +89,65 @@ module _ {At : Type 0} (door : Table At) where
   abbrev pub WayTold : State At → Type 0
   WayTold s = (w : ℕ) → Waits door s w → (T (has_way door s w) ↔ RightOfWay door s w)
 
--- how often an arm is passed, from every making on; the rules give it, and the phases of the places where an arm rests, begins and leaves
-pub record PassingBound {At : Type 0} (door : Table At) : Type 0 where
-  pub twice : Always door (AtMostTwice door)
-  pub once : Always door (OnceIfIdle door)
-  pub itself : Always door (NotItself door)
-  pub twice_until_idle : Always door (AtMostTwiceUntilIdle door)
-  pub once_until_idle : Always door (OnceIfIdleUntilIdle door)
-  pub once_itself : Always door (OnceItself door)
-  pub row : Always door (RowCounts door)
-  pub notes : Always door (NotesTell door)
-  pub row_kept : Always door (RowKept door)
-  pub notes_kept : Always door (NotesKept door)
-  pub lost : Always door (LostAtMostTwice door)
+-- the law, at the state s of a gate that was start and had the calls of past
+module _ {At : Type 0} (door : Table At) (start : State At) (past : List Call) (s : State At) where
+  -- how often an arm is passed: the rules give it, and the phases of the places where an arm rests, begins and leaves
+  pub record Passing : Type 0 where
+    pub twice : AtMostTwice door start past s
+    pub once : OnceIfIdle door start past s
+    pub itself : NotItself door start past s
+    pub twice_until_idle : AtMostTwiceUntilIdle door start past s
+    pub once_until_idle : OnceIfIdleUntilIdle door start past s
+    pub once_itself : OnceItself door start past s
+    pub row : RowCounts door start past s
+    pub notes : NotesTell door start past s
+    pub row_kept : RowKept door start past s
+    pub notes_kept : NotesKept door start past s
+    pub lost : LostAtMostTwice door start past s
 
--- each doorway reads the bit exactly once, from every making on; the rules, and what a door shows of the accesses of its doorway, give it
-pub record ReadingBound {At : Type 0} (door : Table At) : Type 0 where
-  pub once : Always door (ReadOnce door)
-  pub if_sided : Always door (ReadIfSided door)
-  pub side : Always door (SideRead door)
+  -- each doorway reads the bit exactly once: the rules give it, and what a door shows of the accesses of its doorway
+  pub record Reading : Type 0 where
+    pub read_once : ReadOnce door start past s
+    pub read_if_sided : ReadIfSided door start past s
+    pub side_read : SideRead door start past s
 
--- what a door shows by an argument of its own: right of way, and going inside within the rounds that it names, which are 8 n + 20 at most
+  -- right of way, and going inside within the rounds that the door names: each door shows it by an argument of its own
+  pub record Entering : Type 0 where
+    pub alike : Alike door start past s
+    pub by_door : AllInsideByDoor door s
+    pub told : WayTold door s
+
+  -- all of it; a door names no more rounds than these
+  pub record Fair : Type 0 where
+    pub passing : Passing
+    pub reading : Reading
+    pub entering : Entering
+    pub rounds : AllInside door s
+    pub sooner : AllInsideSooner door s
+
+-- the parts of the law, from every making on
+abbrev pub PassingBound : {At : Type 0} → Table At → Type 0
+PassingBound door = Always door (Passing door)
+
+abbrev pub ReadingBound : {At : Type 0} → Table At → Type 0
+ReadingBound door = Always door (Reading door)
+
+-- what a door shows: its part, and that it names 8 n + 20 rounds at most
 pub record ShowsWay {At : Type 0} (door : Table At) : Type 0 where
-  pub alike : Always door (Alike door)
-  pub by_door : Always door (λ start past s. AllInsideByDoor door s)
+  pub entering : Always door (Entering door)
   pub few : (n : ℕ) → door.rounds n ≤ 8 * n + 20
-  pub told : Always door (λ start past s. WayTold door s)
-
--- what holds at the state s of a gate that was start and had the calls of past
-pub record Fair {At : Type 0} (door : Table At) (start : State At) (past : List Call) (s : State At) : Type 0 where
-  pub alike : Alike door start past s
-  pub twice : AtMostTwice door start past s
-  pub once : OnceIfIdle door start past s
-  pub itself : NotItself door start past s
-  pub twice_until_idle : AtMostTwiceUntilIdle door start past s
-  pub once_until_idle : OnceIfIdleUntilIdle door start past s
-  pub once_itself : OnceItself door start past s
-  pub row : RowCounts door start past s
-  pub notes : NotesTell door start past s
-  pub row_kept : RowKept door start past s
-  pub notes_kept : NotesKept door start past s
-  pub lost : LostAtMostTwice door start past s
-  pub read_once : ReadOnce door start past s
-  pub read_if_sided : ReadIfSided door start past s
-  pub side_read : SideRead door start past s
-  pub rounds : AllInside door s
-  pub sooner : AllInsideSooner door s
-  pub by_door : AllInsideByDoor door s
-  pub told : WayTold door s
 
 -- a gate in this state is fair, however it was made and whatever was called
 abbrev pub Law : {At : Type 0} → Table At → State At → Type 0
-Law {At} door s = (memory : Lent) (high number wanted : ℕ) (regs : List ℕ) (past : List Call) →
-    let start : State At = made door memory high number wanted regs in
+Law {At} door s = (making : Making) (past : List Call) →
+    let start : State At = made door making in
     run door start past ≡ s → Fair door start past s
 
 -- a making, and calls since then, that lead to the state s
 pub record Origin {At : Type 0} (door : Table At) (s : State At) : Type 0 where
-  pub memory : Lent
-  pub high : ℕ
-  pub number : ℕ
-  pub wanted : ℕ
-  pub regs : List ℕ
+  pub making : Making
   pub calls : List Call
-  pub leads : run door (made door memory high number wanted regs) calls ≡ s
+  pub leads : run door (made door making) calls ≡ s
 
 -- there is such an origin
 abbrev pub IsReached : {At : Type 0} → Table At → State At → Type 0

@@ -1,9 +1,17 @@
--- How many arms a bank has room for, and its registers and memory when a gate is made.
-use Rattle.std.specs.Prelude.{ℕ, ◌<◌, ◌≤◌, zero, suc, min, if◌then◌else◌, List, ◌++◌, drop, map, ◌==◌, nat_le, nat_lt}
+-- What a gate is made of, how many arms it gets, and its registers and memory then.
+use Rattle.std.specs.Prelude.{ℕ, ◌<◌, ◌≤◌, zero, suc, min, if◌then◌else◌, List, ◌++◌, drop, length, map, ◌==◌, nat_le, nat_lt}
 use Rattle.std.specs.List.{range_with_len}
 use Rattle.bank.specs.Lent.{Lent, touched}
 use Rattle.door.specs.Limits.{arm_limit}
 use Rattle.door.specs.Table.{Table}
+
+-- the memory that the bank writes, the highest value of a register, the gate's number, how many arms are wanted, and the values of the bank
+pub record Making : Type 0 where
+  pub memory : Lent
+  pub high : ℕ
+  pub number : ℕ
+  pub wanted : ℕ
+  pub regs : List ℕ
 
 module _ {At : Type 0} (door : Table At) where
   -- the largest count up to k whose registers are among len
@@ -14,6 +22,9 @@ module _ {At : Type 0} (door : Table At) where
   -- the arm count of a gate over a bank of len registers, none above high
   abbrev pub arms_for : ℕ → ℕ → ℕ → ℕ
   arms_for high len wanted = if nat_lt high door.needed then 0 else largest len (min wanted arm_limit)
+
+  abbrev pub arms_of : Making → ℕ
+  arms_of making = arms_for making.high (length making.regs) making.wanted
 
   -- n arms are the most that there can be: no more than are wanted or than the limit, and they want no more than the bank has;
   -- any larger count that is wanted wants more

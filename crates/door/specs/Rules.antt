@@ -1,6 +1,6 @@
 -- The rules of the meaning: what a call of arm i does to it, from m to m'. Each door shows them, from every making on.
 use Rattle.std.specs.Prelude.{◌≡◌, ℕ, ◌≤◌, Bool, not, T, ◌≢◌, List}
-use Rattle.bank.specs.Lent.{Lent}
+use Rattle.door.specs.Making.{Making}
 use Rattle.door.specs.Table.{Table}
 use Rattle.door.specs.Arms.{side_of}
 use Rattle.door.specs.States.{State, made, is_arm, arm_at, bit_of}
@@ -56,8 +56,8 @@ pub record Keeps (m m' : Meaning) (i : ℕ) : Type 0 where
 
 -- what Q says of every state that a making and calls lead to: of the state made, the calls, and the state
 abbrev pub Always : {At : Type 0} → Table At → (State At → List Call → State At → Type 0) → Type 0
-Always {At} door Q = (memory : Lent) (high number wanted : ℕ) (regs : List ℕ) (past : List Call) →
-    let start : State At = made door memory high number wanted regs in
+Always {At} door Q = (making : Making) (past : List Call) →
+    let start : State At = made door making in
     Q start past (run door start past)
 
 -- the door shows the rules: whatever was called before, each call keeps them

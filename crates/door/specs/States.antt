@@ -1,11 +1,11 @@
 -- The state of a gate.
-use Rattle.std.specs.Prelude.{ℕ, ◌-◌, Bool, if◌then◌else◌, ◌&&◌, List, length, replicate, ◌==◌, nat_le, slice_index, slice_index_or, slice_set}
+use Rattle.std.specs.Prelude.{ℕ, ◌-◌, Bool, if◌then◌else◌, ◌&&◌, List, replicate, ◌==◌, nat_le, slice_index, slice_index_or, slice_set}
 use Rattle.bank.specs.Lent.{Lent}
 use Rattle.door.specs.Limits.{arm_limit}
 use Rattle.door.specs.Registers.{group}
 use Rattle.door.specs.Table.{Table}
 use Rattle.door.specs.Arms.{fresh, no_arm}
-use Rattle.door.specs.Making.{made_memory, made_regs, arms_for}
+use Rattle.door.specs.Making.{Making, made_memory, made_regs, arms_of}
 use Rattle.door.specs.declared.arm.Arm.{Arm}
 use Rattle.door.specs.declared.phase.Phase.{Phase}
 
@@ -39,14 +39,14 @@ module _ {At : Type 0} where
 
 module _ {At : Type 0} (door : Table At) where
   -- a gate just made over a bank
-  abbrev pub made : Lent → ℕ → ℕ → ℕ → List ℕ → State At
-  made memory high number wanted regs =
+  abbrev pub made : Making → State At
+  made making =
       record {
-        memory = made_memory door (arms_for door high (length regs) wanted) memory;
-        high = high;
-        number = number;
-        n = arms_for door high (length regs) wanted;
-        regs = made_regs door (arms_for door high (length regs) wanted) regs;
+        memory = made_memory door (arms_of door making) making.memory;
+        high = making.high;
+        number = making.number;
+        n = arms_of door making;
+        regs = made_regs door (arms_of door making) making.regs;
         arms = replicate arm_limit (fresh door);
         turns = 0;
       }

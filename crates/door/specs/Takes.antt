@@ -1,6 +1,6 @@
 -- What an arm takes at most once a visit and only while inside, such as a lock among the arms inside: how often, as a list of events tells it.
 use Rattle.std.specs.Prelude.{ℕ, ◌+◌, ◌≤◌, Bool, false, if◌then◌else◌, not, ◌&&◌, ◌||◌, T, List, [], ◌∷◌, ◌==◌}
-use Rattle.bank.specs.Lent.{Lent}
+use Rattle.door.specs.Making.{Making}
 use Rattle.door.specs.Table.{Table}
 use Rattle.door.specs.States.{State, made, is_arm}
 use Rattle.door.specs.Calls.{after, run}
@@ -39,6 +39,6 @@ module _ {At : Type 0} (door : Table At) where
 
 -- from every making on; the rules give it, and the phases of the places where an arm rests, begins and leaves
 abbrev pub TakingBound : {At : Type 0} → Table At → Type 0
-TakingBound {At} door = (memory : Lent) (high number wanted : ℕ) (regs : List ℕ) (events : List Event) →
-    let start : State At = made door memory high number wanted regs in
+TakingBound {At} door = (making : Making) (events : List Event) →
+    let start : State At = made door making in
     TakenAtMostTwice door start events (run door start (calls_of events))

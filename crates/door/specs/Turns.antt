@@ -1,8 +1,8 @@
 -- How often the bit turned, as a list of calls tells it.
 use Rattle.std.specs.Prelude.{◌≡◌, ℕ, ◌+◌, ◌*◌, ◌≤◌, Bool, if◌then◌else◌, not, ◌&&◌, T, List, [], ◌∷◌, ◌==◌, slice_index}
-use Rattle.bank.specs.Lent.{Lent}
 use Rattle.door.specs.Limits.{visit_limit}
 use Rattle.door.specs.Registers.{group}
+use Rattle.door.specs.Making.{Making}
 use Rattle.door.specs.Table.{Table}
 use Rattle.door.specs.States.{State, made, is_arm, arm_at}
 use Rattle.door.specs.Calls.{after, run}
@@ -35,6 +35,6 @@ pub record TurnsTold {At : Type 0} (door : Table At) (start : State At) (past : 
 
 -- the turns of a gate in this state, however it was made and whatever was called
 abbrev pub TurnsLaw : {At : Type 0} → Table At → State At → Type 0
-TurnsLaw {At} door s = (memory : Lent) (high number wanted : ℕ) (regs : List ℕ) (past : List Call) →
-    let start : State At = made door memory high number wanted regs in
+TurnsLaw {At} door s = (making : Making) (past : List Call) →
+    let start : State At = made door making in
     run door start past ≡ s → TurnsTold door start past s

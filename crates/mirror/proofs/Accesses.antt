@@ -52,11 +52,11 @@ module _ {At : Type 0} {door : Table At} (plan : Plan door) where
       (plan.deed a) refl)
 
   pub accesses_by : ShowsAccesses door
-  accesses_by memory high number wanted regs past i h =
-      let start : State At = made door memory high number wanted regs in
+  accesses_by making past i h =
+      let start : State At = made door making in
       let now = run door start past in
       let e = none_of (refusal_of door now (Step i)) h in
       let size = run_n door past start in
       let r = known_arm now i (step_refusal (phase_at door now i)) e in
       let some : 1 ≤ start.n = let lo = r.0 in let hi = r.1 in omega arith in
-      step_stays now i e (subst (Sound plan now) (sym size) (run_sound start start.n (start_sound plan memory high number wanted regs some) past))
+      step_stays now i e (subst (Sound plan now) (sym size) (run_sound start start.n (start_sound plan making some) past))

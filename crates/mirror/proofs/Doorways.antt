@@ -63,9 +63,9 @@ module _ {At : Type 0} {door : Table At} (plan : Plan door) where
       rw (phase_is s g h.mirror i lo hi, ap door.index (h.mirror.shows i lo hi).stands ∙ plan.indexed (g.arms i))
       (index_fits s.n g.n g.group g.arms (g.arms i) h.arms_are (h.keeps.own i))
 
-  module _ (memory : Lent) (high number wanted : ℕ) (regs : List ℕ) (past : List Call) where
+  module _ (making : Making) (past : List Call) where
     abbrev start : State At
-    start = made door memory high number wanted regs
+    start = made door making
 
     abbrev now : State At
     now = run door start past
@@ -74,16 +74,16 @@ module _ {At : Type 0} {door : Table At} (plan : Plan door) where
     sound : (i : ℕ) → (1 ≤ i) × (i ≤ now.n) → Sound plan now now.n
     sound i r =
         let size = run_n door past start in
-        subst (Sound plan now) (sym size) (run_sound start start.n (start_sound plan memory high number wanted regs (let lo = r.0 in let hi = r.1 in omega arith)) past)
+        subst (Sound plan now) (sym size) (run_sound start start.n (start_sound plan making (let lo = r.0 in let hi = r.1 in omega arith)) past)
 
   pub reads_by : ShowsReads door
-  reads_by memory high number wanted regs past i h d =
-      let now = run door (made door memory high number wanted regs) past in
+  reads_by making past i h d =
+      let now = run door (made door making) past in
       let e = none_of (refusal_of door now (Step i)) h in
-      step_reads now i e d (sound memory high number wanted regs past i (known_arm now i (step_refusal (phase_at door now i)) e))
+      step_reads now i e d (sound making past i (known_arm now i (step_refusal (phase_at door now i)) e))
 
   pub indexes_by : ShowsIndexes door
-  indexes_by memory high number wanted regs past i h =
-      let now = run door (made door memory high number wanted regs) past in
+  indexes_by making past i h =
+      let now = run door (made door making) past in
       let r = arm_in now i h in
-      step_index now i r.0 r.1 (sound memory high number wanted regs past i r)
+      step_index now i r.0 r.1 (sound making past i r)

@@ -93,16 +93,16 @@ module _ {At : Type 0} {door : Table At} (plan : Plan door) where
     exit = ap door.phase (sym (plan.at_exit false)) ∙ plan.phased (x1 false);
   }
 
-  module _ (memory : Lent) (high number wanted : ℕ) (regs : List ℕ) (past : List Call) where
+  module _ (making : Making) (past : List Call) where
     abbrev start : State At
-    start = made door memory high number wanted regs
+    start = made door making
 
     abbrev now : State At
     now = run door start past
 
     -- with arms, the state mirrors a machine
     sound : start.n ≢ 0 → Sound plan now start.n
-    sound ne = run_sound start start.n (start_sound plan memory high number wanted regs (omega arith)) past
+    sound ne = run_sound start start.n (start_sound plan making (omega arith)) past
 
     change : (c : Call) → Change (meaning_of door now) (meaning_of door (after door now c)) (arm_of c)
     change c = ⊎_elim
@@ -125,7 +125,7 @@ module _ {At : Type 0} {door : Table At} (plan : Plan door) where
         side_bound now h.machine h.mirror i r.0 r.1
 
   pub rules_by : ShowsRules door
-  rules_by memory high number wanted regs past c = keeps_of _ _ _ (change memory high number wanted regs past c)
+  rules_by making past c = keeps_of _ _ _ (change making past c)
 
   pub bits_by : ShowsBits door
-  bits_by memory high number wanted regs past = record { bit = bit_low_now memory high number wanted regs past; sides = sides_low memory high number wanted regs past }
+  bits_by making past = record { bit = bit_low_now making past; sides = sides_low making past }

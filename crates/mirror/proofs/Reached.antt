@@ -132,9 +132,9 @@ first δ n = record { kind = δ; n = n; group = false; arms = λ k. idle false }
 pub first_inv : (δ : Kind) (n : ℕ) → Inv (first δ n)
 first_inv δ n = record { home = λ k. tt; awake = λ k h. absurd h; range = λ k t h. absurd h; own = λ k. tt }
 
-module _ {At : Type 0} {door : Table At} (plan : Plan door) (memory : Lent) (high number wanted : ℕ) (regs : List ℕ) where
+module _ {At : Type 0} {door : Table At} (plan : Plan door) (making : Making) where
   abbrev start : State At
-  start = made door memory high number wanted regs
+  start = made door making
 
   abbrev n : ℕ
   n = arms_for door high (length regs) wanted

@@ -31,9 +31,9 @@ bit_once x y e = grind arith
 waits_awake : (p : Phase) → T (same_phase p P.W) → T (not (same_phase p P.I))
 waits_awake p h = grind arith
 
-module _ {At : Type 0} {door : Table At} (plan : Plan door) (memory : Lent) (high number wanted : ℕ) (regs : List ℕ) (past : List Call) where
+module _ {At : Type 0} {door : Table At} (plan : Plan door) (making : Making) (past : List Call) where
   abbrev start : State At
-  start = made door memory high number wanted regs
+  start = made door making
 
   abbrev n : ℕ
   n = start.n
@@ -52,7 +52,7 @@ module _ {At : Type 0} {door : Table At} (plan : Plan door) (memory : Lent) (hig
 
   module _ (some : 1 ≤ n) where
     abbrev sound : Sound plan now n
-    sound = run_sound start n (start_sound plan memory high number wanted regs some) past
+    sound = run_sound start n (start_sound plan making some) past
 
     waiting : (w : ℕ) → 1 ≤ w → w ≤ n → T (is_in door P.W now w) → (sd : Bool) × Waiting sd (sound.machine.arms w)
     waiting w lo hi t = phase_waits (sound.machine.arms w) (subst T (phase_shown now sound.machine sound.mirror P.W w lo (let z = sound.arms_are in omega arith)) t)
@@ -63,7 +63,7 @@ module _ {At : Type 0} {door : Table At} (plan : Plan door) (memory : Lent) (hig
         let z = sound.arms_are in
         let size = sound.mirror.size in
         let sided : (arm_at door now w).side ≡ Some (bit sd) = (sound.mirror.shows w lo (omega arith)).sided ∙ ap (λ a. as_bit (side a)) v.2 in
-        sym ((reading door (phased_by plan) (rules_by plan) (reads_by plan)).side memory high number wanted regs past w (bit sd) (arm_is now w lo (omega arith)) (waits_awake (phase_at door now w) t) sided)
+        sym ((reading door (phased_by plan) (rules_by plan) (reads_by plan)).side making past w (bit sd) (arm_is now w lo (omega arith)) (waits_awake (phase_at door now w) t) sided)
 
     -- two arms with the same side are free to go together; of two with different sides one only
     both_free : (t v : Bool) → T (same t v) → Free sound.machine.group sound.machine.arms t → Free sound.machine.group sound.machine.arms v
@@ -113,15 +113,15 @@ module _ {At : Type 0} {door : Table At} (plan : Plan door) (memory : Lent) (hig
 module _ {At : Type 0} {door : Table At} (plan : Plan door) where
   pub way_by : ShowsWay door
   way_by = record {
-    alike = λ memory high number wanted regs past u w hu hw.
-        let x = waits_range plan memory high number wanted regs past u hu in
-        let y = waits_range plan memory high number wanted regs past w hw in
-        alike plan memory high number wanted regs past x.2 u w x.0 x.1 (waits_phase plan memory high number wanted regs past u hu) y.0 y.1 (waits_phase plan memory high number wanted regs past w hw);
-    by_door = λ memory high number wanted regs past w hw.
-        let x = waits_range plan memory high number wanted regs past w hw in
-        inside_by_door plan memory high number wanted regs past x.2 w x.0 x.1 (waits_phase plan memory high number wanted regs past w hw);
+    alike = λ making past u w hu hw.
+        let x = waits_range plan making past u hu in
+        let y = waits_range plan making past w hw in
+        alike plan making past x.2 u w x.0 x.1 (waits_phase plan making past u hu) y.0 y.1 (waits_phase plan making past w hw);
+    by_door = λ making past w hw.
+        let x = waits_range plan making past w hw in
+        inside_by_door plan making past x.2 w x.0 x.1 (waits_phase plan making past w hw);
     few = plan.rounds_few;
-    told = λ memory high number wanted regs past w hw.
-        let x = waits_range plan memory high number wanted regs past w hw in
-        told_so plan memory high number wanted regs past x.2 w x.0 x.1 (waits_phase plan memory high number wanted regs past w hw);
+    told = λ making past w hw.
+        let x = waits_range plan making past w hw in
+        told_so plan making past x.2 w x.0 x.1 (waits_phase plan making past w hw);
   }

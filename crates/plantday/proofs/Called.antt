@@ -23,16 +23,16 @@ module _ {At : Type 0} (door : Table At) where
   joined {s} {t} {u} a b = (a.0 ++ b.0, b.1 ∙ ap (λ x. run door x b.0) a.1 ∙ sym (run_append door a.0 b.0 s))
 
   -- a gate on which only calls were made is fair, and its turns are those of the calls
-  pub fair_after : Phased door → ShowsRules door → ShowsBits door → ShowsWay door → ShowsReads door → (memory : Lent) (high number wanted : ℕ) (regs : List ℕ) {t : State At}
-      → Called door (made door memory high number wanted regs) t → FairDay door (made door memory high number wanted regs) t
-  fair_after phased rules bits way reads memory high number wanted regs {t} a =
-      let start = made door memory high number wanted regs in
-      (a.0, a.1, subst (Fair door start a.0) (sym a.1) (fair door phased rules way reads memory high number wanted regs a.0), subst (TurnsTold door start a.0) (sym a.1) (turns_told door phased rules bits memory high number wanted regs a.0))
+  pub fair_after : Phased door → ShowsRules door → ShowsBits door → ShowsWay door → ShowsReads door → (making : Making) {t : State At}
+      → Called door (made door making) t → FairDay door (made door making) t
+  fair_after phased rules bits way reads making {t} a =
+      let start = made door making in
+      (a.0, a.1, subst (Fair door start a.0) (sym a.1) (fair door phased rules way reads making a.0), subst (TurnsTold door start a.0) (sym a.1) (turns_told door phased rules bits making a.0))
 
   -- calls leave the arm count as it is
   pub n_stays : {s t : State At} → Called door s t → t.n ≡ s.n
   n_stays {s} a = ap (λ x. x.n) a.1 ∙ run_n door a.0 s
 
   -- and the bank over the memory that it was made over
-  pub name_stays : (memory : Lent) (high number wanted : ℕ) (regs : List ℕ) {t : State At} → Called door (made door memory high number wanted regs) t → t.memory.name ≡ memory.name
-  name_stays memory high number wanted regs a = ap (λ x. x.memory.name) a.1 ∙ memory_name door memory high number wanted regs a.0
+  pub name_stays : (making : Making) {t : State At} → Called door (made door making) t → t.memory.name ≡ memory.name
+  name_stays making a = ap (λ x. x.memory.name) a.1 ∙ memory_name door making a.0

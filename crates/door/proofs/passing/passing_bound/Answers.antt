@@ -1,5 +1,5 @@
-use Rattle.door.proofs.Fairness.{passing}
+use Rattle.door.proofs.Bound.{passing}
 use Rattle.door.proofs.passing.passing_bound.Goals as goal
 
 pub returns : goal.returns
-returns g c door phased rules = passing door phased rules
+returns g c door phased rules making past = passing phased rules making past

@@ -2,4 +2,4 @@ use Rattle.door.proofs.Doorways.{reading}
 use Rattle.door.proofs.passing.reading_bound.Goals as goal
 
 pub returns : goal.returns
-returns g c door phased rules reads = reading door phased rules reads
+returns g c door phased rules reads making past = reading door phased rules reads making past

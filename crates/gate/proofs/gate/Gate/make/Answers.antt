@@ -30,7 +30,7 @@ clear-requires g c =
 -- a gate put together from what its parts are
 made_of : {At : Type 0} (door : Table At) (memory lent : Lent) (high number wanted n : ℕ) (regs new : List ℕ) (arms : List (Arm At))
     → n ≡ arms_for door high (length regs) wanted → lent ≡ made_memory door n memory → new ≡ made_regs door n regs → arms ≡ replicate arm_limit (fresh door)
-    → record { memory = lent; high = high; number = number; n = n; regs = new; arms = arms; turns = 0 } ≡ made door memory high number wanted regs
+    → record { memory = lent; high = high; number = number; n = n; regs = new; arms = arms; turns = 0 } ≡ made door making
 made_of door memory lent high number wanted n regs new arms en el er ea =
     λ i. record { memory = (el ∙ ap (λ k. made_memory door k memory) en) i; high = high; number = number; n = en i; regs = (er ∙ ap (λ k. made_regs door k regs) en) i; arms = ea i; turns = 0 }
 
