@@ -13,7 +13,7 @@ use Rattle.door.specs.declared.call.Call.{Call}
 use Rattle.door.specs.declared.phase.Phase.TheVariants as P
 use Rattle.door.proofs.Accepted.{arm_in}
 use Rattle.door.proofs.Bools.{by, and_T, T_and}
-use Rattle.door.proofs.Fairness.{inside_within}
+use Rattle.overtaking.proofs.Fairness.{inside_within}
 use Rattle.door.proofs.Origins.{run_append, reached_after}
 use Rattle.door.proofs.Runs.{run_n}
 use Rattle.door.proofs.Sooner.{some_arm, rounds_few}

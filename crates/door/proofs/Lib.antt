@@ -2,39 +2,28 @@
 pub mod Bools
 pub mod Tables
 pub mod Registers
-pub mod Rests
 pub mod Rooms
--- what an accepted call says of its arm, what a tally leaves, and what no call alters
+-- what a call does, and what it makes of an arm's record
 pub mod Accepted
 pub mod Effects
 pub mod Seen
 pub mod Records
+-- one induction over calls; what no call alters, what leads to a gate, what a state never exceeds
 pub mod Always
 pub mod Runs
--- a step: put together, and touching one register
-pub mod Steps
-pub mod Spared
--- what leads to a gate
 pub mod Origins
--- what a state never exceeds
 pub mod Bounds
--- the rules put together; how often an arm is passed, from them alone of the meaning, and with the phases of three places of a gate's history
+pub mod Rests
+-- the rules put together, and what they say of a state
 pub mod Changes
 pub mod Meant
-pub mod GetsPast
-pub mod Passed
-pub mod Rows
-pub mod Bound
 -- each doorway reads the bit once
 pub mod Doorways
 -- who goes inside within so many rounds does so within more
 pub mod Sooner
--- the law, put together
-pub mod Fairness
--- what an arm takes at most once a visit
-pub mod Takes
--- what a state never exceeds; the access of an accepted step can be made
-pub mod Turns
+-- a step: put together, touching one register, which is there
+pub mod Steps
+pub mod Spared
 pub mod Makeable
 -- the index of an arm
 pub mod Indexes

@@ -1,6 +1,5 @@
 //! What every door is to a gate: the phases and records of its arms, the one access of a step, the calls, and why they are refused.
-//! The model of a whole gate over any door's table, the rules that a door shows, and the law are in specs/;
-//! what follows for any door from the rules and the phases of three places, how often an arm is passed, is in proofs/.
+//! The model of a whole gate over any door's table, the rules that a door shows, and the law are in specs/.
 #![tactic(auto)]
 
 // The phases of an arm.
@@ -13,10 +12,7 @@ pub mod arm;
 pub mod refusal;
 // The calls of a gate.
 pub mod call;
-// How often an arm is passed, how often an arm inside takes a lock, and that a doorway reads the bit once, of any door.
-mod passing;
 
 pub use call::Call;
-pub use passing::{passing_bound, reading_bound, taking_bound};
 pub use phase::Phase;
 pub use refusal::Refusal;

@@ -9,10 +9,10 @@ use Rattle.door.specs.States.{State, made}
 use Rattle.door.specs.Table.{Table}
 use Rattle.door.specs.Turns.{TurnsTold}
 use Rattle.door.specs.declared.call.Call.{Call}
-use Rattle.door.proofs.Fairness.{fair}
+use Rattle.overtaking.proofs.Fairness.{fair}
 use Rattle.door.proofs.Origins.{run_append}
 use Rattle.door.proofs.Runs.{run_n, memory_name}
-use Rattle.door.proofs.Turns.{turns_told}
+use Rattle.overtaking.proofs.Turns.{turns_told}
 use Rattle.plantday.specs.Day.{Called, FairDay}
 
 module _ {At : Type 0} (door : Table At) where

@@ -7,8 +7,8 @@ use Rattle.door.specs.Turns.{TurnsTold}
 use Rattle.door.specs.declared.call.Call.TheVariants.{Begin}
 use Rattle.door.proofs.Origins.{run_more}
 use Rattle.door.proofs.Runs.{memory_name}
-use Rattle.door.proofs.Fairness.{fair, passing}
-use Rattle.door.proofs.Turns.{turns_told}
+use Rattle.overtaking.proofs.Fairness.{fair, passing}
+use Rattle.overtaking.proofs.Turns.{turns_told}
 use Rattle.gate.proofs.carrying.carry_out.Goals as goal
 
 pub loop-call-preserved : goal.loop-call-preserved

@@ -1,5 +1,5 @@
 use Rattle.std.proofs.Common.{rules}
-use Rattle.door.proofs.Turns.{turns_law}
+use Rattle.overtaking.proofs.Turns.{turns_law}
 use Rattle.gate.proofs.Told.{index_told}
 use Rattle.gate.proofs.gate.Gate.look.Goals as goal
 

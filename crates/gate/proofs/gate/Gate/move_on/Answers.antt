@@ -9,7 +9,7 @@ use Rattle.door.specs.States.{State, arm_at}
 use Rattle.door.proofs.Origins.{reached_after}
 use Rattle.door.proofs.Rests.{rest_set}
 use Rattle.door.proofs.Steps.{put_together, step_after}
-use Rattle.door.proofs.Turns.{turns_few, exit_turns}
+use Rattle.overtaking.proofs.Turns.{turns_few, exit_turns}
 use Rattle.door.specs.declared.call.Call.TheVariants.{Step}
 use Rattle.door.specs.declared.phase.Phase.TheVariants as P
 use Rattle.gate.proofs.gate.Gate.move_on.Goals as goal

@@ -1,5 +1,5 @@
 use Rattle.std.proofs.Common.{Ok, rules}
-use Rattle.door.proofs.Fairness.{law, tells_so}
+use Rattle.overtaking.proofs.Fairness.{law, tells_so}
 use Rattle.gate.proofs.gate.Gate.way.Goals as goal
 
 pub returns-clause-told : goal.returns-clause-told

@@ -12,7 +12,7 @@ use Rattle.door.specs.declared.call.Call.TheVariants.{Way}
 use Rattle.door.specs.declared.refusal.Refusal.{Refusal}
 use Rattle.door.proofs.Always.{at_origin, at_reached, true_at}
 use Rattle.door.proofs.Bools.{test}
-use Rattle.door.proofs.Bound.{passing}
+use Rattle.overtaking.proofs.Bound.{passing}
 use Rattle.door.proofs.Doorways.{reading}
 use Rattle.door.proofs.Sooner.{inside_more, some_arm, rounds_few}
 

@@ -12,10 +12,10 @@ use Rattle.door.specs.Takes.{called, takes, Event, calls_of, takes_on, TakesOnce
 use Rattle.door.specs.declared.phase.Phase.TheVariants as P
 use Rattle.door.proofs.Changes.{Goes, Change, ends_doorway as ends, goes_inside as enters}
 use Rattle.door.proofs.Bools.{same}
-use Rattle.door.proofs.Bound.{arm_range, past_range}
-use Rattle.door.proofs.GetsPast.{Inv, is_past, left, count, remaining, goes_at, still, idle_stays, remaining_change}
+use Rattle.overtaking.proofs.Bound.{arm_range, past_range}
+use Rattle.overtaking.proofs.Overtaking.{Inv, is_past, left, count, remaining, goes_at, still, idle_stays, remaining_change}
 use Rattle.door.proofs.Meant.{phase_meant, change_at, start_rests}
-use Rattle.door.proofs.Passed.{ends_shown, enters_shown, Passed, passed_call, side_then, start_passed}
+use Rattle.overtaking.proofs.Entries.{ends_shown, enters_shown, Passed, passed_call, side_then, start_passed}
 use Rattle.door.proofs.Runs.{after_n}
 
 -- 1 where an arm inside may still take: it has gone inside and not taken since

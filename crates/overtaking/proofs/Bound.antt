@@ -17,9 +17,9 @@ use Rattle.door.proofs.Bools.{and_T, T_and, T_or_left, is_true}
 use Rattle.door.proofs.Rooms.{arms_few}
 use Rattle.door.proofs.Accepted.{arm_in}
 use Rattle.door.proofs.Meant.{start_fresh}
-use Rattle.door.proofs.Passed.{Passed, passed_run, bound, once_itself as exactly_once, start_passed}
+use Rattle.overtaking.proofs.Entries.{Passed, passed_run, bound, once_itself as exactly_once, start_passed}
 use Rattle.door.proofs.Runs.{run_n}
-use Rattle.door.proofs.Rows.{Row, Kept, kept_run}
+use Rattle.overtaking.proofs.Rows.{Row, Kept, kept_run}
 
 module _ {At : Type 0} {door : Table At} (phased : Phased door) (rules : ShowsRules door) (making : Making) (past : List Call) where
   abbrev start : State At

@@ -1,5 +1,5 @@
 use Rattle.door.proofs.Doorways.{reading}
-use Rattle.door.proofs.passing.reading_bound.Goals as goal
+use Rattle.overtaking.proofs.bounds.reading_bound.Goals as goal
 
 pub returns : goal.returns
 returns g c door phased rules reads making past = reading door phased rules reads making past

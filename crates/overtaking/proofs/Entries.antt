@@ -19,7 +19,7 @@ use Rattle.door.specs.declared.phase.Phase.TheVariants as P
 use Rattle.door.proofs.Bools.{same_refl, and_T, test}
 use Rattle.door.proofs.Bounds.{all_there}
 use Rattle.door.proofs.Effects.{begins, admits, leaves}
-use Rattle.door.proofs.GetsPast.{Inv, inv_change, past_doorway as is_past_doorway, is_past, Counted, count_change}
+use Rattle.overtaking.proofs.Overtaking.{Inv, inv_change, past_doorway as is_past_doorway, is_past, Counted, count_change}
 use Rattle.door.proofs.Meant.{two_phases, phase_meant, change_at, start_rests}
 use Rattle.door.proofs.Origins.{origin_made, origin_after}
 use Rattle.door.proofs.Records.{Became, stays, visited, moved_on, became_by}

@@ -22,7 +22,7 @@ use Rattle.door.specs.declared.phase.Phase.TheVariants as P
 use Rattle.door.proofs.Bounds.{all_there}
 use Rattle.door.proofs.Effects.{begins, admits, leaves, Does, nothing, visits, steps, does, no_step}
 use Rattle.door.proofs.Seen.{tallied_table}
-use Rattle.door.proofs.Passed.{Passed, passed_call, bound, waiting_call}
+use Rattle.overtaking.proofs.Entries.{Passed, passed_call, bound, waiting_call}
 use Rattle.door.proofs.Runs.{after_n}
 
 -- what a call makes of the count r of b in w's latest wait, and of the count k since w ended its doorway:

@@ -1,0 +1,8 @@
+//! Bounded overtaking: how often an arm goes inside while another one is past its doorway, in a gate over any door that shows the rules;
+//! how often the bit turns; and the law of fairness, put together.
+#![tactic(auto)]
+
+// The bounds, as calls whose contracts are the laws.
+mod bounds;
+
+pub use bounds::{passing_bound, reading_bound, taking_bound};
