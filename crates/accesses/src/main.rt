@@ -70,7 +70,7 @@ fn gate_over<D: Door>(
     registers: usize,
     wanted: usize,
 ) -> anyhow::Result<Watched<D>>
-    ensures { IfOk result (λ g. g.gate ≡ made D.table (unlogged 0) 255 1 wanted (replicate registers 9)) }
+    ensures { IfOk result (λ g. g.gate ≡ made D.table (record { memory = unlogged 0; high = 255; number = 1; wanted = wanted; regs = replicate registers 9 })) }
 {
     let accesses = Rc::new(rt.alloc(), Accesses::none())?;
     let bank = CountingBank::new(vec![in rt.alloc(); 9; registers]?, accesses.clone()?);

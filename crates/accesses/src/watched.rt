@@ -67,7 +67,7 @@ impl<D: Door> Watched<D> {
         number: u16,
         wanted: usize,
     ) -> Watched<D>
-        ensures { result.gate ≡ made D.table (unlogged 0) 255 number wanted bank.registers.items }
+        ensures { result.gate ≡ made D.table (record { memory = unlogged 0; high = 255; number = number; wanted = wanted; regs = bank.registers.items }) }
     {
         let before = accesses.count();
         let gate = Gate::<CountingBank, D>::make(bank, number, wanted);

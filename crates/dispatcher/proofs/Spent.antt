@@ -2,7 +2,7 @@
 use Rattle.std.proofs.Common.{◌≡◌, ℕ, zero, suc, ◌-◌, true, false, T, List, [], ◌∷◌, get_or, set, replicate, Some, None, Option, subst, sym, refl, ◌∙◌, arith}
 use Rattle.std.proofs.lemmas.Bool.Decides.{nat_tests}
 use Rattle.std.proofs.lemmas.List.{get_or-set_same, get_or-set_other, set_past, length-set}
-use Rattle.bank.specs.Lent.{Lent}
+use Rattle.door.specs.Making.{Making}
 use Rattle.door.specs.Limits.{arm_limit}
 use Rattle.door.specs.Arms.{fresh, no_arm}
 use Rattle.door.specs.Calls.{refusal_of, knows, unless, with_visit, arm_after, stepped, done, after, run}

@@ -1,7 +1,7 @@
 -- A dispatcher, and what holds of every dispatcher in hand.
 use Rattle.std.specs.Prelude.{◌≡◌, ℕ, ◌≤◌, false, List}
-use Rattle.bank.specs.Lent.{Lent}
 use Rattle.door.specs.Law.{IsReached}
+use Rattle.door.specs.Making.{Making}
 use Rattle.door.specs.States.{State, made, arm_at}
 use Rattle.door.specs.Table.{Table}
 
@@ -12,7 +12,7 @@ pub record Dispatch (At : Type 0) : Type 0 where
 
 module _ {At : Type 0} (door : Table At) where
   -- a dispatcher just made
-  abbrev pub started : Lent → ℕ → ℕ → ℕ → List ℕ → Dispatch At
+  abbrev pub started : Making → Dispatch At
   started making = record { gate = made door making; last = 0 }
 
   -- no pass is out

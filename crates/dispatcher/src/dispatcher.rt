@@ -29,7 +29,7 @@ impl<B: Bank, D: Door> Dispatcher<B, D> {
     /// A dispatcher with a gate of its own over a bank; with the wanted arm count, or as many as the door has room for there, up to the limit of a gate.
     /// It cannot be refused.
     pub fn new(bank: B, number: u16, wanted: usize) -> Dispatcher<B, D>
-        ensures { result ≡ started D.table (B.memory bank) B.HIGHEST number wanted (B.values bank) }
+        ensures { result ≡ started D.table (record { memory = B.memory bank; high = B.HIGHEST; number = number; wanted = wanted; regs = B.values bank }) }
     {
         let gate = Gate::<B, D>::make(bank, number, wanted);
         Dispatcher { gate, last: 0 }

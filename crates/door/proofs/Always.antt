@@ -1,5 +1,6 @@
 -- One induction over calls: what holds of every run, at every origin, and of every gate in hand.
-use Rattle.std.proofs.Common.{◌≡◌, ℕ, Bool, T, ◌⊎◌, inl, inr, List, [], ◌∷◌, refl, ◌∙◌, subst, ⊎_elim}
+use Rattle.std.proofs.Common.{◌≡◌, ℕ, Bool, T, ◌⊎◌, inl, inr, List, [], ◌∷◌, refl, ◌∙◌, subst, ⊎_elim, ◌<◌, ◌≤◌, arith}
+use Rattle.std.proofs.lemmas.Bool.{cases_eq, cases_lt}
 use Rattle.std.proofs.lemmas.Grind.{not_there}
 use Rattle.door.specs.Calls.{after, run, stepped}
 use Rattle.door.specs.Law.{Origin, IsReached}
@@ -47,6 +48,12 @@ module _ {At : Type 0} (door : Table At) where
   -- and of a gate in hand, where it is decided, so that any origin will do
   pub at_reached : {X : Type 0} {s : State At} → X ⊎ ¬ X → (Origin door s → X) → IsReached door s → X
   at_reached decided from reached = ⊎_elim (λ x. x) (λ n. absurd (not_there reached (λ p. n (from p)))) decided
+
+  pub at_most : {s : State At} (m n : ℕ) → (Origin door s → m ≤ n) → IsReached door s → m ≤ n
+  at_most m n = at_reached (⊎_elim (λ l. inr (λ h. omega (arith, l, h))) inl (cases_lt n m))
+
+  pub same_at : {s : State At} (m n : ℕ) → (Origin door s → m ≡ n) → IsReached door s → m ≡ n
+  same_at m n = at_reached (cases_eq m n)
 
   pub true_at : {s : State At} (b : Bool) → (Origin door s → T b) → IsReached door s → T b
   true_at b = at_reached (⊎_elim inl (λ d. inr (λ t. clash b t d)) (test b))

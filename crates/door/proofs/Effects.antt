@@ -16,6 +16,9 @@ use Rattle.door.proofs.Bools.{and_T}
 abbrev pub Idles : Call → Bool → Type 0
 Idles c ok = (b : ℕ) → T (not (ok && (begin_of b c || move_of b c)))
 
+pub no_move : (c : Call) (ok : Bool) → Idles c ok → (v : ℕ) → (ok && move_of v c) ≡ false
+no_move c ok idles v = let x = idles v in grind arith
+
 pub no_step : (c : Call) (ok : Bool) → Idles c ok → (v : ℕ) → (ok && step_of v c) ≡ false
 no_step c ok idles v = let x = idles v in grind arith
 

@@ -58,11 +58,11 @@ Faulty file P = (fault : PlayFault) × (says file ≡ Err fault) × P fault
 module _ {At : Type 0} (door : Table At) (highest : ℕ) (registers : List ℕ) where
   -- a gate over the bank after the orders of a file
   abbrev pub gate_after : ℕ → List ℕ → State At
-  gate_after arms file = obeyed_by door (says file) (made door (unlogged 0) highest 0 arms registers)
+  gate_after arms file = obeyed_by door (says file) (made door (record { memory = unlogged 0; high = highest; number = 0; wanted = arms; regs = registers }))
 
   -- a gate whose arm 1 has begun so many visits and is idle
   abbrev pub gate_visited : ℕ → State At
-  gate_visited visits = with_arm 1 (with_visit door.idle visits false (fresh door)) (made door (unlogged 0) highest 0 1 registers)
+  gate_visited visits = with_arm 1 (with_visit door.idle visits false (fresh door)) (made door (record { memory = unlogged 0; high = highest; number = 0; wanted = 1; regs = registers }))
 
   -- a play over a bank in any memory, with this report memory, answers the length of a text, and leaves the text at the start of the memory
   pub record Plays (lent : Lent) (file text memory : List ℕ) : Type 0 where

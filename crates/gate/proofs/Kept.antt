@@ -15,7 +15,6 @@ use Rattle.door.proofs.Accepted.{unless_both, known_arm, arm_is}
 use Rattle.door.proofs.Bools.{by, test, and_T, is_true}
 use Rattle.door.proofs.Seen.{tallied_table}
 use Rattle.gate.specs.Answers.{admit_answer}
-use Rattle.gate.specs.Gates.{IsGate}
 use Rattle.gate.specs.Passes.{passes_out, with_given, without}
 use Rattle.gate.specs.declared.pass.Pass.{Pass}
 
@@ -24,10 +23,6 @@ pub given_out : (p : Pass) (out : ℕ → ℕ → Bool) → with_given (Ok p) ou
 given_out p out = grind (arith, nat_tests)
 
 module _ {At : Type 0} (door : Table At) where
-  -- every arm of a gate has a record
-  pub all_there : (s v : State At) → IsGate door v → v ≡ s → s.n ≤ length s.arms
-  all_there s v h e = subst (λ x. x.n ≤ length x.arms) e (omega (arith, h.few, h.full))
-
   -- a record with the same mark put in its place
   same_mark : (arms : List (Arm At)) (k j : ℕ) (a : Arm At) → a.out ≡ (get_or arms k (no_arm door)).out → (get_or (set arms k a) j (no_arm door)).out ≡ (get_or arms j (no_arm door)).out
   same_mark arms k j a e = grind (arith, get_or-set_same, get_or-set_other, set_past)

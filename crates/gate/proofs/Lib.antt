@@ -1,3 +1,4 @@
+pub mod InHand
 pub mod Kept
 pub mod Noting
 pub mod Places

@@ -58,12 +58,12 @@ pub fn carry_out<B: Bank, D: Door>(
     wanted: usize,
     calls: &[Call],
 ) -> Gate<B, D>
-    ensures state { result ≡ run D.table (made D.table (B.memory bank) B.HIGHEST number wanted (B.values bank)) calls.now }
+    ensures state { result ≡ run D.table (made D.table (record { memory = B.memory bank; high = B.HIGHEST; number = number; wanted = wanted; regs = B.values bank })) calls.now }
     ensures lent { result.memory.name ≡ (B.memory bank).name }
-    ensures law { Fair D.table (made D.table (B.memory bank) B.HIGHEST number wanted (B.values bank)) calls.now result }
+    ensures law { Fair D.table (made D.table (record { memory = B.memory bank; high = B.HIGHEST; number = number; wanted = wanted; regs = B.values bank })) calls.now result }
     ensures rules { ShowsRules D.table }
     ensures bound { PassingBound D.table }
-    ensures turns { TurnsTold D.table (made D.table (B.memory bank) B.HIGHEST number wanted (B.values bank)) calls.now result }
+    ensures turns { TurnsTold D.table (made D.table (record { memory = B.memory bank; high = B.HIGHEST; number = number; wanted = wanted; regs = B.values bank })) calls.now result }
 {
     let mut gate = Gate::<B, D>::make(bank, number, wanted);
     for call in calls {

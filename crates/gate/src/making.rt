@@ -72,7 +72,7 @@ impl<B: Bank, D: Door> Gate<B, D> {
     /// It cannot be refused.
     #[tactic(auto, using(door::proofs::Rooms::arms_largest))]
     pub fn make(mut bank: B, number: u16, wanted: usize) -> Gate<B, D>
-        ensures made { result ≡ made D.table (B.memory bank) B.HIGHEST number wanted (B.values bank) }
+        ensures made { result ≡ made D.table (record { memory = B.memory bank; high = B.HIGHEST; number = number; wanted = wanted; regs = B.values bank }) }
         ensures arms { IsLargest D.table B.HIGHEST (length (B.values bank)) wanted result.n }
     {
         let n = arm_count::<B, D>(&bank, wanted);

@@ -11,13 +11,12 @@ use Rattle.door.specs.declared.call.Call.TheVariants.{Step}
 use Rattle.door.specs.declared.phase.Phase.TheVariants as P
 use Rattle.door.specs.declared.refusal.Refusal.{Refusal}
 use Rattle.door.proofs.Accepted.{for_arm_none, step_none, known_arm}
-use Rattle.door.proofs.Runs.{run_n}
 use Rattle.machine.specs.Kinds.{Place}
 use Rattle.machine.proofs.Machine.{Stance, waits, may_step}
 use Rattle.machine.proofs.Invariant.{Own}
 use Rattle.mirror.proofs.Plans.{Deed, rest, ask, look, tell, turn, access_for, Plan}
 use Rattle.mirror.proofs.Mirror.{phase_is}
-use Rattle.mirror.proofs.Reached.{Sound, start_sound, run_sound}
+use Rattle.mirror.proofs.Reached.{Sound, sound}
 
 none_of : (r : Option Refusal) → T (no_refusal r) → r ≡ None
 none_of r h = grind arith
@@ -53,10 +52,7 @@ module _ {At : Type 0} {door : Table At} (plan : Plan door) where
 
   pub accesses_by : ShowsAccesses door
   accesses_by making past i h =
-      let start : State At = made door making in
-      let now = run door start past in
+      let now = run door (made door making) past in
       let e = none_of (refusal_of door now (Step i)) h in
-      let size = run_n door past start in
       let r = known_arm now i (step_refusal (phase_at door now i)) e in
-      let some : 1 ≤ start.n = let lo = r.0 in let hi = r.1 in omega arith in
-      step_stays now i e (subst (Sound plan now) (sym size) (run_sound start start.n (start_sound plan making some) past))
+      step_stays now i e (sound plan making past (let lo = r.0 in let hi = r.1 in omega arith))

@@ -1,6 +1,5 @@
 -- A door with a plan reads the bit exactly once in each doorway, and an arm's index is one of the n while it waits.
 use Rattle.std.proofs.Common.{◌≡◌, ℕ, ◌≤◌, Bool, T, List, None, Option, sym, refl, ap, ◌∙◌, subst, arith}
-use Rattle.bank.specs.Lent.{Lent}
 use Rattle.door.specs.Calls.{refusal_of, step_refusal, access_at, stepped, after, unless, run}
 use Rattle.door.specs.Doorways.{gets_side, ReadsAsTold, ShowsReads}
 use Rattle.door.specs.History.{no_refusal, of_group, is_in}
@@ -13,14 +12,13 @@ use Rattle.door.specs.declared.call.Call.TheVariants.{Step}
 use Rattle.door.specs.declared.phase.Phase.TheVariants as P
 use Rattle.door.specs.declared.refusal.Refusal.{Refusal}
 use Rattle.door.proofs.Accepted.{known_arm, arm_in}
-use Rattle.door.proofs.Runs.{run_n}
 use Rattle.machine.specs.Kinds.{Kind}
 use Rattle.machine.proofs.Machine.{Stance, waits, phase, at, step_arm, changed_same, step, moved}
 use Rattle.machine.proofs.Invariant.{Own, inv_moved}
 use Rattle.machine.proofs.Rules.{stage}
 use Rattle.mirror.proofs.Plans.{Deed, look, is_ask, is_d2, looks_at, access_for, Plan}
 use Rattle.mirror.proofs.Mirror.{phase_is, access_is}
-use Rattle.mirror.proofs.Reached.{Sound, start_sound, run_sound, step_moves, phase_shown}
+use Rattle.mirror.proofs.Reached.{Sound, sound, step_moves, phase_shown}
 use Rattle.mirror.proofs.Meant.{arms_meant}
 
 none_of : (r : Option Refusal) → T (no_refusal r) → r ≡ None
@@ -63,27 +61,15 @@ module _ {At : Type 0} {door : Table At} (plan : Plan door) where
       rw (phase_is s g h.mirror i lo hi, ap door.index (h.mirror.shows i lo hi).stands ∙ plan.indexed (g.arms i))
       (index_fits s.n g.n g.group g.arms (g.arms i) h.arms_are (h.keeps.own i))
 
-  module _ (making : Making) (past : List Call) where
-    abbrev start : State At
-    start = made door making
-
-    abbrev now : State At
-    now = run door start past
-
-    -- with arms, the state mirrors a machine
-    sound : (i : ℕ) → (1 ≤ i) × (i ≤ now.n) → Sound plan now now.n
-    sound i r =
-        let size = run_n door past start in
-        subst (Sound plan now) (sym size) (run_sound start start.n (start_sound plan making (let lo = r.0 in let hi = r.1 in omega arith)) past)
-
   pub reads_by : ShowsReads door
   reads_by making past i h d =
       let now = run door (made door making) past in
       let e = none_of (refusal_of door now (Step i)) h in
-      step_reads now i e d (sound making past i (known_arm now i (step_refusal (phase_at door now i)) e))
+      let r = known_arm now i (step_refusal (phase_at door now i)) e in
+      step_reads now i e d (sound plan making past (let lo = r.0 in let hi = r.1 in omega arith))
 
   pub indexes_by : ShowsIndexes door
   indexes_by making past i h =
       let now = run door (made door making) past in
       let r = arm_in now i h in
-      step_index now i r.0 r.1 (sound making past i r)
+      step_index now i r.0 r.1 (sound plan making past (let lo = r.0 in let hi = r.1 in omega arith))

@@ -2,8 +2,8 @@
 use Rattle.std.proofs.Common.{◌≡◌, ℕ, ◌≤◌, Bool, false, T, eqb, ◌≢◌, List, Option, sym, refl, ap, ◌∙◌, subst, ⊎_elim, arith}
 use Rattle.std.proofs.lemmas.Bool.Decides.{nat_tests}
 use Rattle.std.proofs.lemmas.Bool.{cases_eq, cond-false, ne_eqb}
-use Rattle.bank.specs.Lent.{Lent}
 use Rattle.door.specs.Registers.{group}
+use Rattle.door.specs.Making.{Making}
 use Rattle.door.specs.Table.{Table}
 use Rattle.door.specs.Arms.{side_of}
 use Rattle.door.specs.States.{State, made, is_arm, arm_at, phase_at, bit_of}
@@ -15,13 +15,12 @@ use Rattle.door.specs.declared.phase.Phase.TheVariants as P
 use Rattle.door.proofs.Changes.{rests, Change, keeps_of}
 use Rattle.door.proofs.Bools.{by, test, clash}
 use Rattle.door.proofs.Accepted.{arm_in, arm_is}
-use Rattle.door.proofs.Runs.{run_n}
 use Rattle.machine.proofs.Machine.{Stance, idle, d1, x1, phase, side, at, Machine, moved}
 use Rattle.machine.proofs.Invariant.{Inv, inv_moved}
 use Rattle.machine.proofs.Rules.{stage, meaning, move_change}
 use Rattle.mirror.proofs.Plans.{bit, as_bit, is_x2, Plan}
 use Rattle.mirror.proofs.Mirror.{register, Mirror, phase_is}
-use Rattle.mirror.proofs.Reached.{Called, stays, goes, came, Sound, run_sound, start_sound}
+use Rattle.mirror.proofs.Reached.{Called, stays, goes, came, sound}
 
 -- a state that mirrors a machine means what the machine means
 one_bit : (b : Bool) → is_one (bit b) ≡ b
@@ -94,34 +93,25 @@ module _ {At : Type 0} {door : Table At} (plan : Plan door) where
   }
 
   module _ (making : Making) (past : List Call) where
-    abbrev start : State At
-    start = made door making
-
     abbrev now : State At
-    now = run door start past
-
-    -- with arms, the state mirrors a machine
-    sound : start.n ≢ 0 → Sound plan now start.n
-    sound ne = run_sound start start.n (start_sound plan making (omega arith)) past
+    now = run door (made door making) past
 
     change : (c : Call) → Change (meaning_of door now) (meaning_of door (after door now c)) (arm_of c)
     change c = ⊎_elim
-        (λ z. change_like _ _ _ _ _ _ refl (ap (meaning_of door) (stands_still door now c (run_n door past start ∙ z))) refl (rest_change (meaning_of door now) (arm_of c)))
-        (λ ne.
-        let h = sound ne in
-        call_change now h.machine h.mirror h.keeps (let x = run_n door past start in omega arith) c (came now h.machine h.mirror h.keeps c))
-        (cases_eq start.n 0)
+        (λ z. change_like _ _ _ _ _ _ refl (ap (meaning_of door) (stands_still door now c z)) refl (rest_change (meaning_of door now) (arm_of c)))
+        (λ ne. let h = sound plan making past (omega arith) in call_change now h.machine h.mirror h.keeps (omega arith) c (came now h.machine h.mirror h.keeps c))
+        (cases_eq now.n 0)
 
     bit_low_now : bit_of now ≤ 1
     bit_low_now = ⊎_elim
-        (λ z. let x = run_n door past start in grind (arith, nat_tests))
-        (λ ne. let h = sound ne in bit_bound now h.machine h.mirror (let x = run_n door past start in omega arith))
-        (cases_eq start.n 0)
+        (λ z. grind (arith, nat_tests))
+        (λ ne. let h = sound plan making past (omega arith) in bit_bound now h.machine h.mirror (omega arith))
+        (cases_eq now.n 0)
 
     sides_low : (i : ℕ) → T (is_arm now i) → side_of (arm_at door now i).side ≤ 1
     sides_low i t =
         let r = arm_in now i t in
-        let h = sound (let x = run_n door past start in omega arith) in
+        let h = sound plan making past (let lo = r.0 in let hi = r.1 in omega arith) in
         side_bound now h.machine h.mirror i r.0 r.1
 
   pub rules_by : ShowsRules door

@@ -5,23 +5,27 @@ use Rattle.std.proofs.lemmas.Bool.{cond-false, ne_eqb}
 use Rattle.std.proofs.lemmas.List.{get_or-replicate, get_or_append_left, length-replicate}
 use Rattle.std.proofs.lemmas.List.FromFn.{get_or-map-range_with_len, length-map-range_with_len}
 use Rattle.std.specs.List.{range_with_len}
-use Rattle.bank.specs.Lent.{Lent}
 use Rattle.door.specs.Limits.{arm_limit}
 use Rattle.door.specs.Registers.{group}
 use Rattle.door.specs.Phases.{same_phase}
 use Rattle.door.specs.Table.{Table}
 use Rattle.door.specs.Arms.{fresh, no_arm}
-use Rattle.door.specs.States.{State, made, is_arm, arm_at, phase_at}
-use Rattle.door.specs.Making.{arms_for, cleared, made_regs}
-use Rattle.door.specs.Calls.{begin_refusal, step_refusal, admit_refusal, knows, refusal_of, arm_after, stepped, done, after, run}
-use Rattle.door.specs.History.{moves, steps, step_of, move_of, is_in, goes_inside}
+use Rattle.door.specs.States.{State, made, is_arm, arm_at, phase_at, with_arm}
+use Rattle.door.specs.declared.arm.Arm.{Arm}
+use Rattle.door.specs.Making.{Making, cleared, made_regs}
+use Rattle.door.specs.Rules.{Always}
+use Rattle.door.specs.Calls.{step_refusal, refusal_of, arm_after, stepped, after, run}
+use Rattle.door.specs.History.{moves, steps as are_steps, step_of, move_of, is_in, goes_inside}
 use Rattle.door.specs.Meaning.{arm_of}
 use Rattle.door.specs.declared.call.Call.{Call}
-use Rattle.door.specs.declared.call.Call.TheVariants.{Begin, Step, Admit, Confirm, Leave, Look, Tally, Way}
+use Rattle.door.specs.declared.call.Call.TheVariants.{Step}
 use Rattle.door.specs.declared.phase.Phase.{Phase}
 use Rattle.door.specs.declared.phase.Phase.TheVariants as P
 use Rattle.door.proofs.Bools.{and_T}
-use Rattle.door.proofs.Accepted.{for_arm_none, begin_none, step_none, admit_none, leave_none, arm_in, known_arm, by_answer}
+use Rattle.door.proofs.Accepted.{for_arm_none, step_none, known_arm}
+use Rattle.door.proofs.Always.{run_holds}
+use Rattle.door.proofs.Effects.{Known, Visits, begins, admits, leaves, Does, nothing, visits, steps, does, no_move, no_step}
+use Rattle.door.proofs.Runs.{run_n}
 use Rattle.door.proofs.Rooms.{arms_few, arms_fit, length_cleared}
 use Rattle.machine.specs.Kinds.{Kind}
 use Rattle.machine.proofs.Machine.{idle, at, out, Move, begin, step, admit, leave, is_step, is_begin, allowed, may_step, Machine, moved}
@@ -37,7 +41,7 @@ pub data Came {At : Type 0} {door : Table At} (plan : Plan door) (g : Machine) (
       → ((b : ℕ) → mv b ≡ (not (is_begin m) && eqb i b)) → ((b : ℕ) → st b ≡ (is_step m && eqb i b)) → i ≡ o → Came plan g t o mv st
 
 abbrev pub Called : {At : Type 0} {door : Table At} → Plan door → Machine → State At → Call → Type 0
-Called {door = door} plan g s c = Came plan g (after door s c) (arm_of c) (λ b. moves door b s c) (λ b. steps door b s c)
+Called {door = door} plan g s c = Came plan g (after door s c) (arm_of c) (λ b. moves door b s c) (λ b. are_steps door b s c)
 
 -- a state that mirrors a machine of n arms with its invariant
 pub record Sound {At : Type 0} {door : Table At} (plan : Plan door) (s : State At) (n : ℕ) : Type 0 where
@@ -48,9 +52,6 @@ pub record Sound {At : Type 0} {door : Table At} (plan : Plan door) (s : State A
 
 module _ {At : Type 0} {door : Table At} {plan : Plan door} where
   module _ (s : State At) (g : Machine) (mir : Mirror plan s g) (inv : Inv g) where
-    by_refusal : (c : Call) → (refusal_of door s c ≡ None → Came plan g (done door s c) (arm_of c) (λ b. move_of b c) (λ b. step_of b c)) → Called plan g s c
-    by_refusal c f = by_answer (refusal_of door s c) (done door s c) s (λ t y. Came plan g t (arm_of c) (λ b. y && move_of b c) (λ b. y && step_of b c)) f (stays mir (λ b. refl) (λ b. refl))
-
     -- an accepted step is a step of the machine
     pub record StepMoves (i : ℕ) : Type 0 where
       pub lo : 1 ≤ i
@@ -72,27 +73,26 @@ module _ {At : Type 0} {door : Table At} {plan : Plan door} where
     step_came : (i : ℕ) → refusal_of door s (Step i) ≡ None → Came plan g (stepped door i s) i (λ b. eqb i b) (λ b. eqb i b)
     step_came i e = let x = step_moves i e in goes step i x.lo (let z = mir.size in let y = x.hi in omega arith) x.may x.mirrors (λ b. refl) (λ b. refl) refl
 
+    visit_came : (c : Call) (i : ℕ) (r : Arm At) → Known door s i → Visits door s c i r → Came plan g (with_arm i r s) (arm_of c) (λ b. move_of b c) (λ b. step_of b c)
+    visit_came c i r known (begins rested _) =
+        let k : T (at P.I (g.arms i)) = subst (λ p. T (same_phase p P.I)) (phase_is s g mir i known.0 known.1) rested in
+        goes begin i known.0 (let z = mir.size in let y = known.1 in omega arith) k (begin_mirror s g mir i known.0 known.1 _ k) (λ b. refl) (λ b. refl) refl
+    visit_came c i r known (admits unmarked) =
+        let k : T (at P.F (g.arms i) && not (out (g.arms i))) = subst (λ o. T (at P.F (g.arms i) && not o)) (mir.shows i known.0 known.1).marked
+        (subst (λ p. T (same_phase p P.F && not (arm_at door s i).out)) (phase_is s g mir i known.0 known.1) unmarked) in
+        goes admit i known.0 (let z = mir.size in let y = known.1 in omega arith) k
+        (admit_mirror s g mir i known.0 known.1 (and_T (at P.F (g.arms i)) (not (out (g.arms i))) k).0) (λ b. refl) (λ b. refl) refl
+    visit_came c i r known (leaves _ marked) =
+        let k : T (out (g.arms i)) = subst T (mir.shows i known.0 known.1).marked marked in
+        goes leave i known.0 (let z = mir.size in let y = known.1 in omega arith) k (leave_mirror s g mir i known.0 known.1 k) (λ b. refl) (λ b. refl) refl
+
+    came_by : (c : Call) (ok : Bool) (t : State At) → Does door s c ok t → Came plan g t (arm_of c) (λ b. ok && move_of b c) (λ b. ok && step_of b c)
+    came_by c ok t (nothing idles) = stays mir (no_move c ok idles) (no_step c ok idles)
+    came_by c ok t (visits known x) = visit_came c _ _ known x
+    came_by c ok t (steps _ none _) = step_came _ none
+
     pub came : (c : Call) → Called plan g s c
-    came (Begin i) = by_refusal (Begin i) (λ e.
-        let r = known_arm s i (begin_refusal (phase_at door s i) (arm_at door s i).visits) e in
-        let k : T (at P.I (g.arms i)) = subst (λ p. T (same_phase p P.I)) (phase_is s g mir i r.0 r.1) (begin_none (phase_at door s i) _ (for_arm_none (is_arm s i) _ e)).0 in
-        goes begin i r.0 (let z = mir.size in let y = r.1 in omega arith) k (begin_mirror s g mir i r.0 r.1 _ k) (λ b. refl) (λ b. refl) refl)
-    came (Step i) = by_refusal (Step i) (step_came i)
-    came (Admit i) = by_refusal (Admit i) (λ e.
-        let r = known_arm s i (admit_refusal (phase_at door s i) (arm_at door s i).out) e in
-        let k₀ = admit_none (phase_at door s i) (arm_at door s i).out (for_arm_none (is_arm s i) _ e) in
-        let k : T (at P.F (g.arms i) && not (out (g.arms i))) = subst (λ o. T (at P.F (g.arms i) && not o)) (mir.shows i r.0 r.1).marked (subst (λ p. T (same_phase p P.F && not (arm_at door s i).out)) (phase_is s g mir i r.0 r.1) k₀) in
-        goes admit i r.0 (let z = mir.size in let y = r.1 in omega arith) k
-        (admit_mirror s g mir i r.0 r.1 (and_T (at P.F (g.arms i)) (not (out (g.arms i))) k).0) (λ b. refl) (λ b. refl) refl)
-    came (Leave z i) = by_refusal (Leave z i) (λ e.
-        let x = and_T (is_arm s i) (arm_at door s i).out (and_T (eqb z s.number) _ (leave_none (knows door s z i) e)).1 in
-        let r = arm_in s i x.0 in
-        let k : T (out (g.arms i)) = subst T (mir.shows i r.0 r.1).marked x.1 in
-        goes leave i r.0 (let z = mir.size in let y = r.1 in omega arith) k (leave_mirror s g mir i r.0 r.1 k) (λ b. refl) (λ b. refl) refl)
-    came (Confirm z i) = by_refusal (Confirm z i) (λ e. stays mir (λ b. refl) (λ b. refl))
-    came (Look i) = by_refusal (Look i) (λ e. stays mir (λ b. refl) (λ b. refl))
-    came (Tally i k) = by_refusal (Tally i k) (λ e. stays mir (λ b. refl) (λ b. refl))
-    came (Way i) = by_refusal (Way i) (λ e. stays mir (λ b. refl) (λ b. refl))
+    came c = came_by c _ _ (does door s c)
 
   -- an arm's phase, in the state and in the machine
   pub phase_shown : (s : State At) (g : Machine) → Mirror plan s g → (p : Phase) (i : ℕ) → 1 ≤ i → i ≤ g.n → is_in door p s i ≡ at p (g.arms i)
@@ -100,7 +100,7 @@ module _ {At : Type 0} {door : Table At} {plan : Plan door} where
 
   -- a move by which w goes inside is a call by which it does
   pub entry_goes : (w : ℕ) (sd : Bool) (s : State At) (g : Machine) → 1 ≤ w → w ≤ g.n → Mirror plan s g → Waiting sd (g.arms w) → (c : Call) (m : Move) (i : ℕ)
-      → Mirror plan (after door s c) (moved g m i) → ((b : ℕ) → steps door b s c ≡ (is_step m && eqb i b)) → Entry m i w (moved g m i) → T (goes_inside door w s c)
+      → Mirror plan (after door s c) (moved g m i) → ((b : ℕ) → are_steps door b s c ≡ (is_step m && eqb i b)) → Entry m i w (moved g m i) → T (goes_inside door w s c)
   entry_goes w sd s g lo hi mir wait c m i mir' st (q, k, ins) =
       let before = phase_shown s g mir P.W w lo hi in
       let afterwards = phase_shown (after door s c) (moved g m i) mir' P.F w lo hi in
@@ -121,10 +121,6 @@ module _ {At : Type 0} {door : Table At} {plan : Plan door} where
       go (stays mir _ _) = same_sound s (after door s c) n h mir
       go (goes m i lo hi k mir _ _ _) = moved_sound s (after door s c) n h m i lo hi mir
 
-  pub run_sound : (s : State At) (n : ℕ) → Sound plan s n → (cs : List Call) → Sound plan (run door s cs) n
-  run_sound s n h [] = h
-  run_sound s n h (c ∷ cs) = run_sound (after door s c) n (after_sound s n h c) cs
-
 -- the machine that a gate just made mirrors
 abbrev pub first : Kind → ℕ → Machine
 first δ n = record { kind = δ; n = n; group = false; arms = λ k. idle false }
@@ -137,7 +133,10 @@ module _ {At : Type 0} {door : Table At} (plan : Plan door) (making : Making) wh
   start = made door making
 
   abbrev n : ℕ
-  n = arms_for door high (length regs) wanted
+  n = start.n
+
+  abbrev regs : List ℕ
+  regs = making.regs
 
   made_values : 1 ≤ n → made_regs door n regs ≡ cleared door (door.room n) regs
   made_values some = cond-false (eqb n 0) regs (cleared door (door.room n) regs) (ne_eqb n 0 (omega arith))
@@ -149,17 +148,17 @@ module _ {At : Type 0} {door : Table At} (plan : Plan door) (making : Making) wh
       ∙ get_or-map-range_with_len door.first 0 (door.room n) q q 0 h (omega arith))
 
   fresh_at : (i : ℕ) → 1 ≤ i → i ≤ n → arm_at door start i ≡ fresh door
-  fresh_at i lo hi = get_or-replicate arm_limit (i - 1) (fresh door) (no_arm door) (let z = arms_few door high (length regs) wanted in omega arith)
+  fresh_at i lo hi = get_or-replicate arm_limit (i - 1) (fresh door) (no_arm door) (let z = arms_few door making.high (length regs) making.wanted in omega arith)
 
   pub start_mirror : 1 ≤ n → Mirror plan start (first plan.kind n)
   start_mirror some =
-      let fit = arms_fit door high (length regs) wanted some in
+      let fit = arms_fit door making.high (length regs) making.wanted some in
       record {
         kind = refl;
         size = refl;
         bits = fit.1;
         fits = let x = ap length (made_values some) in let y = length_cleared door (door.room n) regs fit.0 in let z = fit.0 in omega arith;
-        table = let x = length-replicate arm_limit (fresh door) in let z = arms_few door high (length regs) wanted in omega arith;
+        table = let x = length-replicate arm_limit (fresh door) in let z = arms_few door making.high (length regs) making.wanted in omega arith;
         group_is = first_is some group (plan.some_room n) ∙ plan.first_bit;
         shows = λ i lo hi.
             let e = fresh_at i lo hi in
@@ -171,5 +170,13 @@ module _ {At : Type 0} {door : Table At} (plan : Plan door) (making : Making) wh
             };
       }
 
-  abbrev pub start_sound : 1 ≤ n → Sound plan start n
+  start_sound : 1 ≤ n → Sound plan start n
   start_sound some = record { machine = first plan.kind n; mirror = start_mirror some; keeps = first_inv plan.kind n; arms_are = refl }
+
+-- with arms, every history leads to a state that mirrors a machine
+pub sound : {At : Type 0} {door : Table At} (plan : Plan door) → Always door (λ start past s. 1 ≤ s.n → Sound plan s s.n)
+sound {door = door} plan making past some =
+    let start = made door making in
+    let size = run_n door past start in
+    subst (Sound plan (run door start past)) (sym size)
+    (run_holds door (λ t. Sound plan t start.n) (λ t c h. after_sound t start.n h c) past start (start_sound plan making (omega arith)))

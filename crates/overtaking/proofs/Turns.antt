@@ -23,7 +23,7 @@ use Rattle.door.specs.declared.phase.Phase.{Phase}
 use Rattle.door.specs.declared.phase.Phase.TheVariants as P
 use Rattle.door.proofs.Bools.{test, clash, none_of, is_true, is_false}
 use Rattle.door.proofs.Accepted.{unless_both, known_arm, arm_in}
-use Rattle.door.proofs.Always.{at_origin, true_at}
+use Rattle.door.proofs.Always.{at_origin, at_most, true_at}
 use Rattle.door.proofs.Bounds.{bounded, bounded_at, all_there}
 use Rattle.door.proofs.Changes.{Goes, keeps_of}
 use Rattle.door.proofs.Effects.{begins, admits, leaves}
@@ -201,12 +201,10 @@ module _ {At : Type 0} (door : Table At) (phased : Phased door) (rules : ShowsRu
 
   -- a gate that calls lead to has room for one turn more
   pub turns_few : (s : State At) → IsReached door s → s.turns ≤ arm_limit * visit_limit
-  turns_few s reached =
-      let within : T (leb s.turns (arm_limit * visit_limit)) = true_at door _ (λ p.
+  turns_few s = at_most door s.turns (arm_limit * visit_limit) (λ p.
       let x = (turns_law s p.making p.calls p.leads).few in
       let few = (bounded_at door s p).few in
-      grind (arith, nat_tests)) reached in
-      grind (arith, nat_tests)
+      omega (arith, x, few))
 
   -- only a step of an arm that leaves turns the bit
   unturned_from : (s : State At) (i : ℕ) → Origin door s → refusal_of door s (Step i) ≡ None → T (not (is_in door P.X s i)) → turns_bit s.high s.regs (access_at door s i) ≡ false

@@ -9,7 +9,7 @@ ghost use Rattle.door.specs.Calls.{refusal_of};
 ghost use Rattle.door.specs.Making.{arms_for};
 ghost use Rattle.door.specs.States.{made};
 ghost use Rattle.door.specs.declared.call.Call.TheVariants.{Admit};
-ghost use Rattle.plantday.specs.Day.{Called, FairDay, HoldsFairDay};
+ghost use Rattle.plantday.specs.Day.{of_plant, Called, FairDay, HoldsFairDay};
 ghost use Rattle.plantday.specs.Records.{plant_arms, with_leave, noted};
 ghost use Rattle.plantday.specs.Turns.{plant, picked, dice_after_pick, let_go, turned, day_of, notes_of_day};
 
@@ -119,10 +119,10 @@ fn turn<B: Bank, D: Door>(gate: &mut Gate<B, D>, k: usize, dice: &mut Dice, reco
 // A whole day on a new gate. Nothing but calls was made on it, so it is fair.
 fn whole_day<B: Bank, D: Door>(bank: B, record: &mut Record) -> Gate<B, D>
     requires { arms_for D.table B.HIGHEST (length (B.values bank)) plant_arms ≡ plant_arms }
-    ensures fair { FairDay D.table (made D.table (B.memory bank) B.HIGHEST 7 plant_arms (B.values bank)) result }
+    ensures fair { FairDay D.table (made D.table (of_plant (B.memory bank) B.HIGHEST (B.values bank))) result }
     ensures turns { «record».new.turns ≡ result.turns }
-    ensures day { result ≡ (day_of D.table (made D.table (B.memory bank) B.HIGHEST 7 plant_arms (B.values bank)) «record».old).gate }
-    ensures noted { «record».new ≡ notes_of_day D.table (made D.table (B.memory bank) B.HIGHEST 7 plant_arms (B.values bank)) «record».old }
+    ensures day { result ≡ (day_of D.table (made D.table (of_plant (B.memory bank) B.HIGHEST (B.values bank))) «record».old).gate }
+    ensures noted { «record».new ≡ notes_of_day D.table (made D.table (of_plant (B.memory bank) B.HIGHEST (B.values bank))) «record».old }
     ensures lent { result.memory.name ≡ (B.memory bank).name }
 {
     let mut gate = Gate::<B, D>::make(bank, NUMBER, ARMS);
@@ -143,7 +143,7 @@ fn day_over<'a, D: Door>(
 ) -> &'a mut [u8]
     requires { arms_for D.table 255 (length memory.old) plant_arms ≡ plant_arms }
     ensures lent { result.ghost_name ≡ memory.entry.ghost_name }
-    ensures registers { HoldsFairDay D.table (made D.table (unlogged memory.entry.ghost_name) 255 7 plant_arms memory.old) result.now «record».new.turns }
+    ensures registers { HoldsFairDay D.table (made D.table (of_plant (unlogged memory.entry.ghost_name) 255 memory.old)) result.now «record».new.turns }
 {
     let gate = whole_day::<_, D>(ByteBank::new(memory), record);
     gate.into_bank().into_memory()
@@ -152,7 +152,7 @@ fn day_over<'a, D: Door>(
 // Lends memory for a day: afterwards it holds the gate's registers.
 fn lend<D: Door>(memory: &mut [u8], record: &mut Record, _kind: Kind<'static, D>)
     requires { arms_for D.table 255 (length memory.old) plant_arms ≡ plant_arms }
-    ensures { (name : ℕ) × HoldsFairDay D.table (made D.table (unlogged name) 255 7 plant_arms memory.old) memory.new «record».new.turns }
+    ensures { (name : ℕ) × HoldsFairDay D.table (made D.table (of_plant (unlogged name) 255 memory.old)) memory.new «record».new.turns }
 {
     let _ = day_over::<D>(memory, record, PhantomData);
 }
@@ -163,7 +163,7 @@ fn memory_after_day<D: Door, const COUNT: usize>(
     kind: Kind<'static, D>,
 ) -> [u8; COUNT]
     requires { arms_for D.table 255 COUNT plant_arms ≡ plant_arms }
-    ensures { (memory : ℕ) × HoldsFairDay D.table (made D.table (unlogged memory) 255 7 plant_arms (replicate COUNT 0)) result «record».new.turns }
+    ensures { (memory : ℕ) × HoldsFairDay D.table (made D.table (of_plant (unlogged memory) 255 (replicate COUNT 0))) result «record».new.turns }
 {
     let mut memory = [0; COUNT];
     lend(&mut memory, record, kind);

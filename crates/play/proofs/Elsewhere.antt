@@ -12,7 +12,7 @@ use Rattle.schedule.specs.Reading.{Contents}
 use Rattle.schedule.specs.declared.fault.PlayFault.{PlayFault}
 use Rattle.schedule.specs.declared.order_number.Order.{Order}
 use Rattle.schedule.specs.declared.order_number.Order.TheVariants.{Begin, Step, Leave}
-use Rattle.play.specs.Playing.{order_refusal, left_at_once, obeyed, obeyed_all, refusals, each_refusal, start, end, play_text, play_answer, play_memory, playable, GivesAsMany, IsSamePlay, SameElsewhere}
+use Rattle.play.specs.Playing.{order_refusal, left_at_once, obeyed, obeyed_all, refusals, each_refusal, over, start, end, play_text, play_answer, play_memory, playable, GivesAsMany, IsSamePlay, SameElsewhere}
 use Rattle.play.specs.Reports.{arm_line, first_line, report_text}
 use Rattle.play.specs.Text.{lines, overwritten}
 
@@ -62,7 +62,7 @@ module _ {At : Type 0} (door : Table At) (shown : ShowsAccesses door) where
       → arms_for door high' (length regs') c.arms ≡ arms_for door high (length regs) c.arms
       → play_text door lent' high' regs' c ≡ play_text door lent high regs c
   play_text_same some_room lent high regs lent' high' regs' c e =
-      let made_so = made_twins door lent high 0 c.arms regs lent' high' regs' e in
+      let made_so = made_twins door (over lent high regs c) (over lent' high' regs' c) refl e in
       let s = start door lent high regs c in
       let t = start door lent' high' regs' c in
       ap (report_text door (end door lent' high' regs' c) (length c.orders)) (count_same s t c.orders made_so)
@@ -76,7 +76,7 @@ module _ {At : Type 0} (door : Table At) (shown : ShowsAccesses door) where
       record {
         answer = ap (λ bytes. Ok (length bytes)) (sym text);
         report = ap (λ bytes. overwritten memory bytes) (sym text);
-        refusals = each_same (start door lent high regs c) (start door lent' high' regs' c) c.orders (made_twins door lent high 0 c.arms regs lent' high' regs' e);
+        refusals = each_same (start door lent high regs c) (start door lent' high' regs' c) c.orders (made_twins door (over lent high regs c) (over lent' high' regs' c) refl e);
       }
   same_play some_room lent high regs lent' high' regs' (Err fault) memory e = record { answer = refl; report = refl; refusals = refl }
 

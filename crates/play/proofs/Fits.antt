@@ -2,7 +2,6 @@
 use Rattle.std.proofs.Common.{◌≡◌, ℕ, zero, suc, ◌+◌, ◌-◌, ◌*◌, ◌^◌, ◌<◌, ◌≤◌, List, ◌++◌, length, decimal, slice_index, Some, None, Option, refl, subst, inl, inr, mul-suc, arith, length-append}
 use Rattle.std.specs.Fmt.{digits}
 use Rattle.std.proofs.lemmas.Bool.{cases_lt, leb-true, ltb-true}
-use Rattle.std.proofs.lemmas.Grind.{not_there}
 use Rattle.std.proofs.lemmas.Fmt.{length-decimal-le}
 use Rattle.std.proofs.lemmas.Nat.{mul-le}
 use Rattle.door.specs.Limits.{arm_limit, tally_limit}
@@ -10,11 +9,12 @@ use Rattle.door.specs.Phases.{letter_of}
 use Rattle.door.specs.Table.{Table}
 use Rattle.door.specs.Arms.{side_of}
 use Rattle.door.specs.States.{State, arm_at, phase_at, bit_of}
-use Rattle.door.specs.Law.{Origin, IsReached}
+use Rattle.door.specs.Law.{IsReached}
 use Rattle.door.specs.Rules.{AreBits, ShowsBits}
 use Rattle.door.specs.declared.phase.Phase.{Phase}
 use Rattle.door.proofs.Accepted.{arm_is}
-use Rattle.door.proofs.Bounds.{Bounded, run_bounded, made_bounded}
+use Rattle.door.proofs.Always.{at_origin, at_most}
+use Rattle.door.proofs.Bounds.{Bounded, bounded_at}
 use Rattle.play.specs.Limits.{report_room}
 use Rattle.play.specs.Text.{lines}
 use Rattle.gate.specs.Answers.{largest_count}
@@ -100,15 +100,8 @@ module _ {At : Type 0} (door : Table At) where
   page_fits : ShowsBits door → (s : State At) (orders refused k : ℕ) → IsReached door s → orders < 2 ^ 64 → refused < 2 ^ 64 → k ≤ s.n
       → length (first_line s orders refused ++ lines (arm_line door s) k) ≤ report_room
   page_fits bits s orders refused k reached o r l =
-      let short : Origin door s → length (first_line s orders refused ++ lines (arm_line door s) k) ≤ report_room = λ origin.
-      let start = made_bounded door origin.memory origin.high origin.number origin.wanted origin.regs in
-      let bounded = subst (Bounded door) origin.leads (run_bounded door origin.calls _ start) in
-      let are_bits = subst (AreBits door) origin.leads (bits origin.memory origin.high origin.number origin.wanted origin.regs origin.calls) in
-      bounded_fits s orders refused k bounded are_bits o r l in
-      elim (cases_lt report_room (length (first_line s orders refused ++ lines (arm_line door s) k))) [
-        | inl l ↦ absurd (not_there reached (λ origin. let h = short origin in omega arith))
-        | inr l ↦ l
-      ]
+      at_most door (length (first_line s orders refused ++ lines (arm_line door s) k)) report_room
+      (λ origin. bounded_fits s orders refused k (bounded_at door s origin) (at_origin door (AreBits door) bits s origin) o r l) reached
 
   -- so there is room for one line more
   pub line_fits : ShowsBits door → (s : State At) (orders refused k : ℕ) (page line text : List ℕ) → IsReached door s → orders < 2 ^ 64 → refused < 2 ^ 64 → k < s.n

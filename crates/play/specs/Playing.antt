@@ -2,7 +2,7 @@
 use Rattle.std.specs.Prelude.{◌≡◌, ℕ, ◌+◌, ◌≤◌, IfOk, List, [], ◌∷◌, length, Ok, Err, Option, Result, is_some, if◌then◌else◌, nat_le}
 use Rattle.bank.specs.Lent.{Lent}
 use Rattle.door.specs.Calls.{refusal_of, after, unless}
-use Rattle.door.specs.Making.{arms_for}
+use Rattle.door.specs.Making.{Making, arms_for}
 use Rattle.door.specs.Table.{Table}
 use Rattle.door.specs.States.{State, made}
 use Rattle.door.specs.declared.call.Call.TheVariants.{Begin as begin, Step as step, Admit as admit, Leave as leave}
@@ -21,6 +21,10 @@ use Rattle.play.specs.Text.{overwritten}
 abbrev pub playable : List ℕ → ℕ → Result Contents PlayFault
 playable file room =
     if nat_le (length file) file_limit then (if nat_le report_room room then says file else Err ShortMemory) else Err LongFile
+
+-- gate 0 over a bank, made for a file
+abbrev pub over : Lent → ℕ → List ℕ → Contents → Making
+over lent high regs c = record { memory = lent; high = high; number = 0; wanted = c.arms; regs = regs }
 
 module _ {At : Type 0} (door : Table At) where
   -- why the gate refuses an order; none where it obeys
@@ -53,9 +57,9 @@ module _ {At : Type 0} (door : Table At) where
   each_refusal s [] = []
   each_refusal s (o ∷ os) = order_refusal s o ∷ each_refusal (obeyed s o) os
 
-  -- gate 0 over a bank, made for a file and after its orders
+  -- as it is made and after its orders
   abbrev pub start : Lent → ℕ → List ℕ → Contents → State At
-  start lent high regs c = made door lent high 0 c.arms regs
+  start lent high regs c = made door (over lent high regs c)
 
   abbrev pub end : Lent → ℕ → List ℕ → Contents → State At
   end lent high regs c = obeyed_all (start lent high regs c) c.orders

@@ -2,12 +2,14 @@ use Rattle.std.proofs.Common.{◌≡◌, get_or, sym, ap, ◌∙◌, subst}
 use Rattle.std.proofs.lemmas.List.{take_all}
 use Rattle.door.specs.Calls.{run, after}
 use Rattle.door.specs.Law.{Fair}
+use Rattle.door.specs.Making.{Making}
 use Rattle.door.specs.States.{made}
 use Rattle.door.specs.Turns.{TurnsTold}
 use Rattle.door.specs.declared.call.Call.TheVariants.{Begin}
 use Rattle.door.proofs.Origins.{run_more}
 use Rattle.door.proofs.Runs.{memory_name}
-use Rattle.overtaking.proofs.Fairness.{fair, passing}
+use Rattle.overtaking.proofs.Bound.{passing}
+use Rattle.overtaking.proofs.Fairness.{fair}
 use Rattle.overtaking.proofs.Turns.{turns_told}
 use Rattle.gate.proofs.carrying.carry_out.Goals as goal
 
@@ -24,14 +26,15 @@ returns g c =
     let bank = g.B.Bank in
     let door = g.D.Door.table in
     let met = g.met.D.Door in
-    let start = made door (bank.memory c.args.bank) bank.HIGHEST c.args.number c.args.wanted (bank.values c.args.bank) in
+    let making : Making = record { memory = bank.memory c.args.bank; high = bank.HIGHEST; number = c.args.number; wanted = c.args.wanted; regs = bank.values c.args.bank } in
+    let start = made door making in
     let e : c.loop-call.gate ≡ run door start c.args.calls.now =
     c.loop-call.invariant ∙ (ap (run door _) (take_all c.loop-call.call-index c.args.calls.now c.loop-call-test.false) ∙ ap (λ s. run door s c.args.calls.now) c.make-gate.ensures.made) in
     record {
       state = e;
-      lent = ap (λ s. s.memory.name) e ∙ memory_name door (bank.memory c.args.bank) bank.HIGHEST c.args.number c.args.wanted (bank.values c.args.bank) c.args.calls.now;
-      law = subst (Fair door start c.args.calls.now) (sym e) (fair door met.phased met.rules met.way met.reads (bank.memory c.args.bank) bank.HIGHEST c.args.number c.args.wanted (bank.values c.args.bank) c.args.calls.now);
+      lent = ap (λ s. s.memory.name) e ∙ memory_name door making c.args.calls.now;
+      law = subst (Fair door start c.args.calls.now) (sym e) (fair door met.phased met.rules met.way met.reads making c.args.calls.now);
       rules = met.rules;
-      bound = passing door met.phased met.rules;
-      turns = subst (TurnsTold door start c.args.calls.now) (sym e) (turns_told door met.phased met.rules met.bits (bank.memory c.args.bank) bank.HIGHEST c.args.number c.args.wanted (bank.values c.args.bank) c.args.calls.now);
+      bound = passing met.phased met.rules;
+      turns = subst (TurnsTold door start c.args.calls.now) (sym e) (turns_told door met.phased met.rules met.bits making c.args.calls.now);
     }

@@ -27,7 +27,7 @@ returns g c =
     let said = c.in-Ok.schedule in
     let playable = sym c.ready.ensures ∙ c.in-Ok.is in
     let first : c.make-gate.result ≡ start door lent high regs said =
-    c.make-gate.ensures.made ∙ ap (λ arms. made door lent high 0 arms regs) (c.from.ensures ∙ ap (λ h. h.arms) c.heading-heading.ensures) in
+    c.make-gate.ensures.made ∙ ap (λ arms. made door (record { memory = lent; high = high; number = 0; wanted = arms; regs = regs })) (c.from.ensures ∙ ap (λ h. h.arms) c.heading-heading.ensures) in
     let last : c.obey_all-refused.new.gate ≡ end door lent high regs said =
     c.obey_all-refused.ensures.after ∙ ap (λ s. obeyed_all door s said.orders) first in
     let refused = c.obey_all-refused.ensures.refused ∙ ap (λ s. refusals door s said.orders) first in

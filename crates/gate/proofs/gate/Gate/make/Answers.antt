@@ -4,11 +4,12 @@ use Rattle.door.proofs.Origins.{reached_made}
 use Rattle.bank.specs.Lent.{Lent}
 use Rattle.door.specs.Arms.{fresh}
 use Rattle.door.specs.Limits.{arm_limit}
-use Rattle.door.specs.Making.{arms_for, cleared, made_regs, cleared_memory, made_memory}
+use Rattle.door.specs.Making.{Making, arms_of, cleared, made_regs, cleared_memory, made_memory}
 use Rattle.door.specs.States.{made}
 use Rattle.door.specs.Table.{Table}
 use Rattle.door.specs.declared.arm.Arm.{Arm}
 use Rattle.door.proofs.Rooms.{arms_few, arms_fit}
+use Rattle.gate.proofs.InHand.{in_hand}
 use Rattle.gate.proofs.gate.Gate.make.Goals as goal
 use Rattle.gate.proofs.gate.Gate.make.Goals.{then-n-gt0, else-n-gt0}
 
@@ -28,11 +29,19 @@ clear-requires g c =
     }
 
 -- a gate put together from what its parts are
-made_of : {At : Type 0} (door : Table At) (memory lent : Lent) (high number wanted n : ℕ) (regs new : List ℕ) (arms : List (Arm At))
-    → n ≡ arms_for door high (length regs) wanted → lent ≡ made_memory door n memory → new ≡ made_regs door n regs → arms ≡ replicate arm_limit (fresh door)
-    → record { memory = lent; high = high; number = number; n = n; regs = new; arms = arms; turns = 0 } ≡ made door making
-made_of door memory lent high number wanted n regs new arms en el er ea =
-    λ i. record { memory = (el ∙ ap (λ k. made_memory door k memory) en) i; high = high; number = number; n = en i; regs = (er ∙ ap (λ k. made_regs door k regs) en) i; arms = ea i; turns = 0 }
+made_of : {At : Type 0} (door : Table At) (making : Making) (lent : Lent) (n : ℕ) (new : List ℕ) (arms : List (Arm At))
+    → n ≡ arms_of door making → lent ≡ made_memory door n making.memory → new ≡ made_regs door n making.regs → arms ≡ replicate arm_limit (fresh door)
+    → record { memory = lent; high = making.high; number = making.number; n = n; regs = new; arms = arms; turns = 0 } ≡ made door making
+made_of door making lent n new arms en el er ea =
+    λ i. record {
+      memory = (el ∙ ap (λ k. made_memory door k making.memory) en) i;
+      high = making.high;
+      number = making.number;
+      n = en i;
+      regs = (er ∙ ap (λ k. made_regs door k making.regs) en) i;
+      arms = ea i;
+      turns = 0;
+    }
 
 some_made : {At : Type 0} (door : Table At) (n : ℕ) (memory : Lent) (regs : List ℕ) → 0 < n
     → (cleared door (door.room n) regs ≡ made_regs door n regs) × (cleared_memory door (door.room n) memory ≡ made_memory door n memory)
@@ -56,13 +65,9 @@ returns-clause-made g c =
       )
       | else-n-gt0 w ↦ (ap bank.values w.bank-is ∙ (none_made door n memory regs w.if-n-gt0.false).0, ap bank.memory w.bank-is ∙ (none_made door n memory regs w.if-n-gt0.false).1)
     ] in
-    made_of door memory (bank.memory c.if-n-gt0.bank) bank.HIGHEST c.args.number c.args.wanted n regs (bank.values c.if-n-gt0.bank) c.fresh_arms.result
+    let making : Making = record { memory = memory; high = bank.HIGHEST; number = c.args.number; wanted = c.args.wanted; regs = regs } in
+    made_of door making (bank.memory c.if-n-gt0.bank) n (bank.values c.if-n-gt0.bank) c.fresh_arms.result
     c.arm_count-n.ensures written.1 written.0 c.fresh_arms.ensures
 
 pub invariant_of-result : goal.invariant_of-result
-invariant_of-result g c =
-    record {
-      few = subst (λ n. n ≤ arm_limit) (sym c.arm_count-n.ensures) (arms_few g.D.Door.table _ _ _);
-      full = search rules;
-      reached = reached_made g.D.Door.table (g.B.Bank.memory c.args.bank) g.B.Bank.HIGHEST c.args.number c.args.wanted (g.B.Bank.values c.args.bank) _ (returns-clause-made g c);
-    }
+invariant_of-result g c = in_hand g.D.Door.table _ (reached_made g.D.Door.table _ _ (returns-clause-made g c))

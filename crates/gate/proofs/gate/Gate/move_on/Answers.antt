@@ -6,12 +6,12 @@ use Rattle.door.specs.Law.{IsReached}
 use Rattle.door.specs.Phases.{same_phase}
 use Rattle.door.specs.Registers.{turns_bit}
 use Rattle.door.specs.States.{State, arm_at}
-use Rattle.door.proofs.Origins.{reached_after}
 use Rattle.door.proofs.Rests.{rest_set}
 use Rattle.door.proofs.Steps.{put_together, step_after}
 use Rattle.overtaking.proofs.Turns.{turns_few, exit_turns}
 use Rattle.door.specs.declared.call.Call.TheVariants.{Step}
 use Rattle.door.specs.declared.phase.Phase.TheVariants as P
+use Rattle.gate.proofs.InHand.{after_call}
 use Rattle.gate.proofs.gate.Gate.move_on.Goals as goal
 
 -- the records past the last arm are idle
@@ -49,11 +49,7 @@ returns-clause-after g c =
 pub invariant_of-self : goal.invariant_of-self
 invariant_of-self g c =
     let door = g.D.Door.table in
-    record {
-      few = c.self.invariant.few;
-      full = c.follow.ensures.full;
-      reached = reached_after door c.args.self.now (Step c.args.arm) _ (step_after door c.args.self.now _ c.args.arm c.requires.may (returns-clause-after g c)) (subst (IsReached door) c.self.view_is c.self.invariant.reached);
-    }
+    after_call door _ c.args.self.now _ (Step c.args.arm) c.self.invariant c.self.view_is (step_after door c.args.self.now _ c.args.arm c.requires.may (returns-clause-after g c))
 
 -- all turns that a gate may have fit
 pub overflow_add-self : goal.overflow_add-self
