@@ -83,11 +83,8 @@ turns δ a v e = grind arith
 told_waiting : (δ : Kind) (n : ℕ) (β : Bool) (b : Stance) (u : Bool) (c : ℕ) (j : ℕ) (p : Place) → holds δ c (step_waiting δ n β b u j p) ≡ holds δ c (waits u 1 W1)
 told_waiting δ n β b u c = outcome (λ r. holds δ c r ≡ holds δ c (waits u 1 W1)) δ n β b u (λ j p. grind arith) (grind arith)
 
-told_look : (δ : Kind) (c j : ℕ) (p : Place) (old : ℕ) → told_by c (looking δ j p) old ≡ old
-told_look δ c j p old = grind arith
-
 pub told : (δ : Kind) (n : ℕ) (β : Bool) (arms : ℕ → Stance) (a : Stance) (c : ℕ) → c < cells δ → T (may_step a) → holds δ c (step_arm δ n β arms a) ≡ told_by c (deed δ a) (holds δ c a)
-told δ n β arms (waits u j p) c cl k = let x = told_waiting δ n β (arms j) u c j p in let y = told_look δ c j p (holds δ c (waits u j p)) in grind arith
+told δ n β arms (waits u j p) c cl k = let x = told_waiting δ n β (arms j) u c j p in grind arith
 told δ n β arms a c cl k = grind (arith, nat_tests)
 
 pub bits : (δ : Kind) (β : Bool) (a : Stance) → T (may_step a) → bit (turn_step β a) ≡ turned_by (deed δ a) (bit β)
