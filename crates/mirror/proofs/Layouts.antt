@@ -11,17 +11,19 @@ abbrev pub highest : Kind → ℕ
 highest three_bits = 1
 highest four_valued = 3
 
--- the cells of an arm: choosing, mygroup, flag; or its state alone
+-- how many cells an arm has: choosing, mygroup and flag, or its state alone
 abbrev pub cells : Kind → ℕ
 cells three_bits = 3
 cells four_valued = 1
 
+-- the register of a cell of arm i
 abbrev pub cell : Kind → ℕ → ℕ → ℕ
 cell three_bits zero i = 3 * i - 2
 cell three_bits (suc zero) i = 3 * i - 1
 cell three_bits (suc (suc c)) i = 3 * i
 cell four_valued c i = i
 
+-- the state of an arm: 3 while it is idle, 2 while it chooses, and then its side
 abbrev pub state : Stance → ℕ
 state (idle g) = 3
 state (d1 g) = 3
@@ -31,13 +33,14 @@ state (x1 s) = bit s
 state (x2 s) = bit s
 state a = 2
 
+-- what a cell holds
 abbrev pub holds : Kind → ℕ → Stance → ℕ
 holds three_bits zero a = bit (choosing a)
 holds three_bits (suc zero) a = bit (mygroup a)
 holds three_bits (suc (suc c)) a = bit (flag a)
 holds four_valued c a = state a
 
--- what an arm does
+-- what a waiting arm does at a place, looking at arm j
 abbrev pub looking : Kind → ℕ → Place → Deed
 looking δ j W1 = ask
 looking δ j W2 = look 0 j
@@ -47,6 +50,7 @@ looking three_bits j W4 = look 2 j
 looking three_bits j W6 = look 1 j
 looking four_valued j p = look 0 j
 
+-- what an arm does; at d3 and d4, where the second kind never is, it would do as at d5
 abbrev pub deed : Kind → Stance → Deed
 deed δ (idle g) = rest
 deed δ (d2 g) = ask
@@ -64,7 +68,7 @@ deed four_valued (d4 s) = tell 0 (bit s)
 deed four_valued (d5 s) = tell 0 (bit s)
 deed four_valued (x2 s) = tell 0 3
 
--- the deeds
+-- what deeds there are
 pub rests : (δ : Kind) (a : Stance) → deed δ a ≡ rest → ¬ (T (may_step a))
 rests δ a e k = grind arith
 
@@ -80,6 +84,7 @@ tells δ a c v e = grind arith
 pub turns : (δ : Kind) (a : Stance) (v : ℕ) → deed δ a ≡ turn v → v ≤ highest δ
 turns δ a v e = grind arith
 
+-- they keep the cells and the bit in step with the machine
 told_waiting : (δ : Kind) (n : ℕ) (β : Bool) (b : Stance) (u : Bool) (c : ℕ) (j : ℕ) (p : Place) → holds δ c (step_waiting δ n β b u j p) ≡ holds δ c (waits u 1 W1)
 told_waiting δ n β b u c = outcome (λ r. holds δ c r ≡ holds δ c (waits u 1 W1)) δ n β b u (λ j p. grind arith) (grind arith)
 
@@ -99,7 +104,7 @@ same_pass δ c u = grind arith
 pub same_left : (δ : Kind) (c : ℕ) (u : Bool) → holds δ c (x1 u) ≡ holds δ c (inside u true)
 same_left δ c u = grind arith
 
--- the registers
+-- the registers: apart from one another and from the bit
 pub apart : (δ : Kind) (c e k i : ℕ) → c < cells δ → e < cells δ → 1 ≤ k → 1 ≤ i → cell δ c k ≡ cell δ e i → (c ≡ e) × (k ≡ i)
 apart δ c e k i cl el kl il q = grind arith
 
