@@ -1,6 +1,10 @@
 ghost use Rattle.std.specs.Prelude.{◌≡◌};
 ghost use Rattle.four_valued.specs.Positions.{read_by, onward, four_valued};
-ghost use Rattle.four_valued.proofs.Shown.{phased as phased_shown, bits as bits_shown, rules as rules_shown, way as way_shown, accesses as accesses_shown, reads as reads_shown, indexes as indexes_shown, some_room as some_room_shown};
+ghost use Rattle.mirror.proofs.Accesses.{accesses_by};
+ghost use Rattle.mirror.proofs.Doorways.{reads_by, indexes_by};
+ghost use Rattle.mirror.proofs.Meant.{phased_by, bits_by, rules_by};
+ghost use Rattle.mirror.proofs.Shown.{way_by};
+ghost use Rattle.four_valued.proofs.Plan.{plan};
 
 use crate::interface::Door;
 use door::Phase;
@@ -130,19 +134,19 @@ impl Door for FourValued {
         6 * usize::from(n) + 16
     }
 
-    ghost phased = { phased_shown };
+    ghost phased = { phased_by plan };
 
-    ghost bits = { bits_shown };
+    ghost bits = { bits_by plan };
 
-    ghost rules = { rules_shown };
+    ghost rules = { rules_by plan };
 
-    ghost way = { way_shown };
+    ghost way = { way_by plan };
 
-    ghost accesses = { accesses_shown };
+    ghost accesses = { accesses_by plan };
 
-    ghost reads = { reads_shown };
+    ghost reads = { reads_by plan };
 
-    ghost indexes = { indexes_shown };
+    ghost indexes = { indexes_by plan };
 
-    ghost some_room = { some_room_shown };
+    ghost some_room = { plan.some_room };
 }

@@ -1,5 +1,5 @@
 pub mod Cases
-pub mod Stories
+pub mod DoorCases
 pub mod ThreeBitCases
 pub mod FourValuedCases
 pub mod EveryCase

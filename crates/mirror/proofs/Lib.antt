@@ -1,4 +1,5 @@
 pub mod Plans
+pub mod Layouts
 pub mod Deeds
 pub mod Mirror
 pub mod Reached

@@ -1,4 +1,4 @@
--- A door's plan: where each stance of the machine stands in the door's table, and what its registers hold.
+-- A door's plan: where each stance of the machine stands in the door's table, and the layout of its registers.
 use Rattle.std.proofs.Common.{◌≡◌, arith, not, ◌+◌, ◌-◌, ◌*◌, ℕ, ◌≤◌, ◌<◌, Bool, true, false, cond, T, eqb, Some, None, Option}
 use Rattle.door.specs.Registers.{group}
 use Rattle.door.specs.Arms.{side_of}
@@ -68,14 +68,35 @@ seen holds β arms ask = bit β
 seen holds β arms (look c j) = holds c (arms j)
 seen holds β arms d = 0
 
-pub record Plan {At : Type 0} (door : Table At) : Type 0 where
-  -- the kind of the machine; where a stance stands; how many cells an arm has, the register of cell c of arm i, and what it holds; what an arm does
-  pub kind : Kind
-  pub place : Stance → At
+-- the registers of an arm and what it does, at a door of this kind whose registers hold no more than this
+pub record Layout (kind : Kind) (needed : ℕ) : Type 0 where
+  -- how many cells an arm has, the register of cell c of arm i, and what it holds; what an arm does
   pub cells : ℕ
   pub cell : ℕ → ℕ → ℕ
   pub holds : ℕ → Stance → ℕ
   pub deed : Stance → Deed
+  -- what deeds there are
+  pub rests : (a : Stance) → deed a ≡ rest → ¬ (T (may_step a))
+  pub asks : (a : Stance) → T (at P.D a) → is_ask (deed a) ≡ is_d2 a
+  pub looks : (a : Stance) (c j : ℕ) → deed a ≡ look c j → (c < cells) × ((u : Bool) × (p : Place) × (a ≡ waits u j p))
+  pub tells : (a : Stance) (c v : ℕ) → deed a ≡ tell c v → (c < cells) × (v ≤ needed)
+  pub turns : (a : Stance) (v : ℕ) → deed a ≡ turn v → v ≤ needed
+  -- they keep the cells and the bit in step with the machine
+  pub told : (n : ℕ) (β : Bool) (arms : ℕ → Stance) (a : Stance) (c : ℕ) → c < cells → T (may_step a) → holds c (step_arm kind n β arms a) ≡ told_by c (deed a) (holds c a)
+  pub bits : (β : Bool) (a : Stance) → T (may_step a) → bit (turn_step β a) ≡ turned_by (deed a) (bit β)
+  pub same_begun : (c : ℕ) (x : Bool) → holds c (d1 x) ≡ holds c (idle x)
+  pub same_pass : (c : ℕ) (u : Bool) → holds c (inside u true) ≡ holds c (inside u false)
+  pub same_left : (c : ℕ) (u : Bool) → holds c (x1 u) ≡ holds c (inside u true)
+  -- the registers: apart from one another and from the bit
+  pub apart : (c e k i : ℕ) → c < cells → e < cells → 1 ≤ k → 1 ≤ i → cell c k ≡ cell e i → (c ≡ e) × (k ≡ i)
+  pub past_bit : (c k : ℕ) → c < cells → 1 ≤ k → 1 ≤ cell c k
+
+pub record Plan {At : Type 0} (door : Table At) : Type 0 where
+  -- the kind of the machine, and its registers; where a stance stands
+  pub kind : Kind
+  pub layout : Layout kind door.needed
+  pub open layout use *
+  pub place : Stance → At
   -- the table: phases, the places that the calls name, the doorway's read, the first exit step, the index
   pub phased : (a : Stance) → door.phase (place a) ≡ phase a
   pub at_rest : (x : Bool) → place (idle x) ≡ door.idle
@@ -89,21 +110,7 @@ pub record Plan {At : Type 0} (door : Table At) : Type 0 where
   pub accesses : (i : ℕ) (a : Stance) → door.access i (number_of a) (place a) ≡ access_for cell (deed a) i
   pub leads : (n : ℕ) (β : Bool) (arms : ℕ → Stance) (a : Stance) → T (may_step a) →
       door.next n (number_of a) (seen holds β arms (deed a)) (place a) ≡ place (step_arm kind n β arms a)
-  -- what deeds there are
-  pub rests : (a : Stance) → deed a ≡ rest → ¬ (T (may_step a))
-  pub asks : (a : Stance) → T (at P.D a) → is_ask (deed a) ≡ is_d2 a
-  pub looks : (a : Stance) (c j : ℕ) → deed a ≡ look c j → (c < cells) × ((u : Bool) × (p : Place) × (a ≡ waits u j p))
-  pub tells : (a : Stance) (c v : ℕ) → deed a ≡ tell c v → (c < cells) × (v ≤ door.needed)
-  pub turns : (a : Stance) (v : ℕ) → deed a ≡ turn v → v ≤ door.needed
-  -- they keep the cells and the bit in step with the machine
-  pub told : (n : ℕ) (β : Bool) (arms : ℕ → Stance) (a : Stance) (c : ℕ) → c < cells → T (may_step a) → holds c (step_arm kind n β arms a) ≡ told_by c (deed a) (holds c a)
-  pub bits : (β : Bool) (a : Stance) → T (may_step a) → bit (turn_step β a) ≡ turned_by (deed a) (bit β)
-  pub same_begun : (c : ℕ) (x : Bool) → holds c (d1 x) ≡ holds c (idle x)
-  pub same_pass : (c : ℕ) (u : Bool) → holds c (inside u true) ≡ holds c (inside u false)
-  pub same_left : (c : ℕ) (u : Bool) → holds c (x1 u) ≡ holds c (inside u true)
-  -- the registers: apart from one another and from the bit, within the room, and as making writes them
-  pub apart : (c e k i : ℕ) → c < cells → e < cells → 1 ≤ k → 1 ≤ i → cell c k ≡ cell e i → (c ≡ e) × (k ≡ i)
-  pub past_bit : (c k : ℕ) → c < cells → 1 ≤ k → 1 ≤ cell c k
+  -- the registers: within the room, and as making writes them
   pub within : (n c k : ℕ) → c < cells → 1 ≤ k → k ≤ n → cell c k < door.room n
   pub some_room : (n : ℕ) → 1 ≤ door.room n
   pub first_bit : door.first group ≡ 0
