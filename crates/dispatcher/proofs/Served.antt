@@ -14,6 +14,7 @@ use Rattle.door.specs.declared.phase.Phase.TheVariants as P
 use Rattle.door.proofs.Accepted.{arm_in}
 use Rattle.door.proofs.Bools.{by, and_T, T_and}
 use Rattle.overtaking.proofs.Fairness.{inside_within}
+use Rattle.door.proofs.Always.{run_holds}
 use Rattle.door.proofs.Origins.{run_append, reached_after}
 use Rattle.door.proofs.Runs.{run_n}
 use Rattle.door.proofs.Sooner.{some_arm, rounds_few}
@@ -35,8 +36,7 @@ module _ {At : Type 0} (door : Table At) where
 
   -- calls lead on
   reached_run : (cs : List Call) (s : State At) → IsReached door s → IsReached door (run door s cs)
-  reached_run [] s reached = reached
-  reached_run (c ∷ cs) s reached = reached_run cs (after door s c) (reached_after door s c (after door s c) refl reached)
+  reached_run = run_holds door (IsReached door) (λ s c. reached_after door s c (after door s c) refl)
 
   -- an arm that is served moves
   serve_moves : (s : State At) (b : ℕ) → NoPassOut door s → T (is_busy door s b) → Moves door b s (serving door s b)
@@ -74,14 +74,14 @@ module _ {At : Type 0} (door : Table At) where
     -- an arm that is not idle moves in the next move, or comes nearer
     pub one_move : (b : ℕ) → T (is_busy door d.gate b)
         → Moves door b d.gate (calls_of door d asked) ⊎ (T (is_busy door (moved door d asked).gate b) × (ahead d.gate.n (moved door d asked).last b < ahead d.gate.n d.last b))
-    one_move b h = elim (busy_after door (opening asked) d.gate b h) [
+    one_move b h = elim (busy_after door (opening asked) d.gate ready.reached b h) [
       | inl m ↦ inl (moves_left door (opening asked) (serving_any door s next) d.gate b m)
       | inr still ↦
           (let r = busy_in s b still in
           let f = in_line_found (is_busy door s) s.n d.last b (let z = same_n in omega (arith, ready.within)) r.0 r.1 still in
           elim f.2 [
             | inl same ↦ inl (moves_right door (opening asked) (serving_any door s next) d.gate b (subst (λ o. Moves door b s (serving_any door s o)) (sym (f.1 ∙ ap Some same)) (serve_moves s b spent_then still)))
-            | inr nearer ↦ elim (busy_after door (serving_any door s next) s b still) [
+            | inr nearer ↦ elim (busy_after door (serving_any door s next) s (reached_run (opening asked) d.gate ready.reached) b still) [
               | inl m ↦ inl (moves_right door (opening asked) (serving_any door s next) d.gate b m)
               | inr more ↦ inr (
                 subst (λ t. T (is_busy door t b)) (sym gate_after) more,

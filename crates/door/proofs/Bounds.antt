@@ -10,11 +10,11 @@ use Rattle.door.specs.Arms.{fresh, no_arm}
 use Rattle.door.specs.Tallies.{with_row, is_waiting, counted, tallied}
 use Rattle.door.specs.States.{State, made, arm_at, phase_at}
 use Rattle.door.specs.Calls.{arm_after}
-use Rattle.door.specs.Law.{Origin}
+use Rattle.door.specs.Law.{Origin, IsReached}
 use Rattle.door.specs.declared.arm.Arm.{Arm}
 use Rattle.door.specs.declared.call.Call.{Call}
 use Rattle.door.specs.declared.phase.Phase.{Phase}
-use Rattle.door.proofs.Always.{IsKept, always, at_origin}
+use Rattle.door.proofs.Always.{IsKept, always, at_origin, at_most}
 use Rattle.door.proofs.Effects.{Visits, begins, admits, leaves}
 use Rattle.door.proofs.Rooms.{arms_few}
 use Rattle.door.proofs.Seen.{tallied_table}
@@ -103,3 +103,6 @@ module _ {At : Type 0} (door : Table At) where
   -- every arm of a gate has a record
   pub all_there : (s : State At) → Origin door s → s.n ≤ length s.arms
   all_there s p = let h = bounded_at s p in omega (arith, h.few, h.full)
+
+  pub each_there : (s : State At) → IsReached door s → s.n ≤ length s.arms
+  each_there s = at_most door s.n (length s.arms) (all_there s)

@@ -6,10 +6,8 @@ use Rattle.dispatcher.proofs.dispatcher.Dispatcher.new.Goals as goal
 pub invariant_of-result : goal.invariant_of-result
 invariant_of-result g c =
     let table = g.D.Door.table in
-    let memory = g.B.Bank.memory c.args.bank in
-    let regs = g.B.Bank.values c.args.bank in
     record {
       within = omega arith;
-      spent = rw c.make-gate.ensures.made (started_spent table memory g.B.Bank.HIGHEST 0 0 regs);
-      reached = reached_made table memory g.B.Bank.HIGHEST _ _ regs c.make-gate.result c.make-gate.ensures.made;
+      spent = rw c.make-gate.ensures.made (started_spent table _);
+      reached = reached_made table _ c.make-gate.result c.make-gate.ensures.made;
     }
