@@ -8,7 +8,7 @@ use Rattle.door.specs.declared.call.Call.TheVariants.{Begin, Step, Admit, Leave}
 use Rattle.door.specs.declared.phase.Phase.{Phase}
 use Rattle.door.specs.declared.phase.Phase.TheVariants as P
 use Rattle.door.proofs.Accepted.{unless_both}
-use Rattle.door.proofs.Runs.{after_n}
+use Rattle.door.proofs.Unaltered.{after_n}
 use Rattle.accesses.specs.Runs.{arm_of, turned_in, turned, run_of}
 
 module _ {At : Type 0} (door : Table At) where

@@ -16,7 +16,7 @@ use Rattle.door.proofs.Bounds.{each_there}
 use Rattle.door.proofs.Effects.{begins, admits, leaves}
 use Rattle.door.proofs.Origins.{reached_after}
 use Rattle.door.proofs.Records.{Became, stays, visited, moved_on, became_by}
-use Rattle.door.proofs.Runs.{after_n}
+use Rattle.door.proofs.Unaltered.{after_n}
 use Rattle.dispatcher.specs.Moves.{is_busy}
 
 module _ {At : Type 0} (door : Table At) where

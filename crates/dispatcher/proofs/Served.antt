@@ -16,7 +16,7 @@ use Rattle.door.proofs.Bools.{by, and_T, T_and}
 use Rattle.overtaking.proofs.Fairness.{inside_within}
 use Rattle.door.proofs.Always.{run_holds}
 use Rattle.door.proofs.Origins.{run_append, reached_after}
-use Rattle.door.proofs.Runs.{run_n}
+use Rattle.door.proofs.Unaltered.{run_n}
 use Rattle.door.proofs.Sooner.{some_arm, rounds_few}
 use Rattle.dispatcher.specs.Dispatchers.{Dispatch, NoPassOut, IsDispatcher}
 use Rattle.dispatcher.specs.Moves.{opening, is_busy, is_inside, in_turn, serving, serving_any, opened, in_line, calls_of, last_after, moved}

@@ -13,7 +13,7 @@ use Rattle.door.specs.declared.call.Call.TheVariants.{Begin, Step, Admit, Leave}
 use Rattle.door.specs.declared.refusal.Refusal.TheVariants as R
 use Rattle.door.proofs.Accepted.{unless_both}
 use Rattle.door.proofs.Bools.{by}
-use Rattle.door.proofs.Seen.{tallied_table}
+use Rattle.door.proofs.SameButRow.{tallied_table}
 use Rattle.dispatcher.specs.Dispatchers.{NoPassOut}
 use Rattle.dispatcher.specs.Moves.{opening, is_inside, serving_any}
 

@@ -17,7 +17,7 @@ use Rattle.door.specs.declared.phase.Phase.{Phase}
 use Rattle.door.proofs.Always.{IsKept, always, at_origin, at_most}
 use Rattle.door.proofs.Effects.{Visits, begins, admits, leaves}
 use Rattle.door.proofs.Rooms.{arms_few}
-use Rattle.door.proofs.Seen.{tallied_table}
+use Rattle.door.proofs.SameButRow.{tallied_table}
 use Rattle.door.proofs.Tables.{kept_map, tallied_holds}
 
 -- no visit and no count of a record is above its limit

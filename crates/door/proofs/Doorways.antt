@@ -29,8 +29,8 @@ use Rattle.door.proofs.Effects.{begins, admits, leaves}
 use Rattle.door.proofs.Meant.{phase_path, phase_meant, change_at, start_fresh}
 use Rattle.door.proofs.Origins.{origin_made, origin_after}
 use Rattle.door.proofs.Records.{Became, stays, visited, moved_on, became_by}
-use Rattle.door.proofs.Runs.{after_n, run_n}
-use Rattle.door.proofs.Seen.{Seen}
+use Rattle.door.proofs.Unaltered.{after_n, run_n}
+use Rattle.door.proofs.SameButRow.{SameButRow}
 
 -- an arm in phase p with side o, k reads since its latest begin, and v the bit that it read
 pub record Told (p : Phase) (o : Option ℕ) (k v : ℕ) : Type 0 where
@@ -123,7 +123,7 @@ module _ {At : Type 0} (door : Table At) (phased : Phased door) where
         let past = subst (λ b. T (not b)) (phase_meant door s P.D w lo hi) x.1 in
         rw side (record { count = λ _. h.count awake; side = λ _. h.side awake; past = λ _ _. h.past awake past })
 
-    own_step : (a : Arm At) → refusal_of door s (Step w) ≡ None → T (not (is_in door P.I s w) && not (is_in door P.F s w)) → Seen a (arm_after door s w) → arm_at door (after door s (Step w)) w ≡ a → Next a false (eqb w w)
+    own_step : (a : Arm At) → refusal_of door s (Step w) ≡ None → T (not (is_in door P.I s w) && not (is_in door P.F s w)) → SameButRow a (arm_after door s w) → arm_at door (after door s (Step w)) w ≡ a → Next a false (eqb w w)
     own_step a none moves seen e =
         let m' = meaning_of door (after door s (Step w)) in
         let p = phase_at door s w in

@@ -6,11 +6,11 @@ pub mod Rooms
 -- what a call does, and what it makes of an arm's record
 pub mod Accepted
 pub mod Effects
-pub mod Seen
+pub mod SameButRow
 pub mod Records
 -- one induction over calls; what no call alters, what leads to a gate, what a state never exceeds
 pub mod Always
-pub mod Runs
+pub mod Unaltered
 pub mod Origins
 pub mod Bounds
 pub mod Rests

@@ -15,7 +15,7 @@ use Rattle.door.proofs.Accepted.{known_arm}
 use Rattle.door.proofs.Always.{at_origin, true_at}
 use Rattle.door.proofs.Bools.{is_true}
 use Rattle.door.proofs.Rooms.{arms_fit, length_cleared}
-use Rattle.door.proofs.Runs.{run_n, run_high, run_regs}
+use Rattle.door.proofs.Unaltered.{run_n, run_high, run_regs}
 
 module _ {At : Type 0} (door : Table At) where
   made_length : (n : ℕ) (regs : List ℕ) → door.room n ≤ length regs → length (made_regs door n regs) ≡ length regs

@@ -13,14 +13,14 @@ use Rattle.door.specs.declared.call.Call.{Call}
 use Rattle.door.specs.declared.call.Call.TheVariants.{Step}
 use Rattle.door.specs.declared.phase.Phase.TheVariants as P
 use Rattle.door.proofs.Effects.{Known, Visits, begins, admits, leaves, Does, nothing, visits, steps, does}
-use Rattle.door.proofs.Seen.{Seen, tallied_table}
+use Rattle.door.proofs.SameButRow.{SameButRow, tallied_table}
 
 module _ {At : Type 0} (door : Table At) (s : State At) where
   -- a is the record of arm v after a call, which is accepted or not
   pub data Became (v : ℕ) : Call → Bool → Arm At → Type 0 where
-    stays : {c : Call} {ok : Bool} {a : Arm At} → T (not (ok && (begin_of v c || move_of v c))) → Seen a (arm_at door s v) → Became v c ok a
+    stays : {c : Call} {ok : Bool} {a : Arm At} → T (not (ok && (begin_of v c || move_of v c))) → SameButRow a (arm_at door s v) → Became v c ok a
     visited : {c : Call} {a : Arm At} → Visits door s c v a → Became v c true a
-    moved_on : {a : Arm At} → refusal_of door s (Step v) ≡ None → T (not (is_in door P.I s v) && not (is_in door P.F s v)) → Seen a (arm_after door s v) → Became v (Step v) true a
+    moved_on : {a : Arm At} → refusal_of door s (Step v) ≡ None → T (not (is_in door P.I s v) && not (is_in door P.F s v)) → SameButRow a (arm_after door s v) → Became v (Step v) true a
 
   other_arm : (c : Call) (i v : ℕ) (r : Arm At) → Visits door s c i r → i ≢ v → T (not (begin_of v c || move_of v c))
   other_arm c i v r (begins _ _) ne = grind (arith, nat_tests)
@@ -35,7 +35,7 @@ module _ {At : Type 0} (door : Table At) (s : State At) where
     other_record i v r lo vlo ne = get_or-set_other s.arms (i - 1) (v - 1) r (no_arm door) (λ e. ne (omega (arith, e)))
 
     -- the tally of a step leaves what is seen
-    step_seen : (i v : ℕ) → Seen (arm_at door (stepped door i s) v) (arm_at door (with_arm i (arm_after door s i) s) v)
+    step_seen : (i v : ℕ) → SameButRow (arm_at door (stepped door i s) v) (arm_at door (with_arm i (arm_after door s i) s) v)
     step_seen i v = (tallied_table door (i - 1) (phase_at door s i) (door.phase (arm_after door s i).position) (set s.arms (i - 1) (arm_after door s i))).0 (v - 1)
 
     became : (v : ℕ) → 1 ≤ v → (c : Call) (ok : Bool) (t : State At) → Does door s c ok t → Became v c ok (arm_at door t v)
@@ -45,8 +45,8 @@ module _ {At : Type 0} (door : Table At) (s : State At) where
         (λ ne. stays (other_arm c i v r x ne) (let e = other_record i v r known.0 lo ne in (ap (λ a. a.position) e, ap (λ a. a.side) e, ap (λ a. a.out) e, ap (λ a. a.visits) e)))
         (cases_eq i v)
     became v lo c ok t (steps {i = i} known none may) = ⊎_elim
-        (λ q. subst (λ k. Became k (Step i) true (arm_at door (stepped door i s) k)) q (moved_on none may (subst (Seen (arm_at door (stepped door i s) i)) (own_record i (arm_after door s i) known) (step_seen i i))))
-        (λ ne. stays (grind (arith, nat_tests)) (subst (Seen (arm_at door (stepped door i s) v)) (other_record i v (arm_after door s i) known.0 lo ne) (step_seen i v)))
+        (λ q. subst (λ k. Became k (Step i) true (arm_at door (stepped door i s) k)) q (moved_on none may (subst (SameButRow (arm_at door (stepped door i s) i)) (own_record i (arm_after door s i) known) (step_seen i i))))
+        (λ ne. stays (grind (arith, nat_tests)) (subst (SameButRow (arm_at door (stepped door i s) v)) (other_record i v (arm_after door s i) known.0 lo ne) (step_seen i v)))
         (cases_eq i v)
 
     pub became_by : (v : ℕ) → 1 ≤ v → (c : Call) → Became v c (accepted door s c) (arm_at door (after door s c) v)

@@ -14,7 +14,7 @@ use Rattle.door.specs.declared.phase.Phase.TheVariants as P
 use Rattle.door.proofs.Always.{IsKept, always, at_origin, true_at}
 use Rattle.door.proofs.Bounds.{kept_replicate}
 use Rattle.door.proofs.Meant.{phase_path}
-use Rattle.door.proofs.Seen.{tallied_table}
+use Rattle.door.proofs.SameButRow.{tallied_table}
 
 module _ {At : Type 0} (door : Table At) (phased : Phased door) where
   abbrev phase_of : List (Arm At) → ℕ → Phase

@@ -13,7 +13,7 @@ use Rattle.door.specs.declared.refusal.Refusal.{Refusal}
 use Rattle.door.specs.declared.refusal.Refusal.TheVariants as R
 use Rattle.door.proofs.Accepted.{unless_both, known_arm, arm_is}
 use Rattle.door.proofs.Bools.{by, test, and_T, is_true}
-use Rattle.door.proofs.Seen.{tallied_table}
+use Rattle.door.proofs.SameButRow.{tallied_table}
 use Rattle.gate.specs.Answers.{admit_answer}
 use Rattle.gate.specs.Passes.{passes_out, with_given, without}
 use Rattle.gate.specs.declared.pass.Pass.{Pass}

@@ -9,7 +9,7 @@ use Rattle.door.specs.Table.{Table}
 use Rattle.door.specs.Tallies.{is_idle, with_row, row_started}
 use Rattle.door.specs.declared.arm.Arm.{Arm}
 use Rattle.door.specs.declared.phase.Phase.TheVariants as P
-use Rattle.door.proofs.Seen.{row_table}
+use Rattle.door.proofs.SameButRow.{row_table}
 use Rattle.door.proofs.Tables.{map_first, idle_is}
 
 module _ {At : Type 0} (door : Table At) (old : List (Arm At)) (k : ℕ) where

@@ -13,7 +13,7 @@ use Rattle.door.specs.declared.arm.Arm.{Arm}
 use Rattle.door.specs.declared.phase.Phase.{Phase}
 use Rattle.door.specs.declared.phase.Phase.TheVariants as P
 use Rattle.door.proofs.Bools.{same}
-use Rattle.door.proofs.Seen.{tallied_table}
+use Rattle.door.proofs.SameButRow.{tallied_table}
 use Rattle.machine.specs.Kinds.{Kind, Place}
 use Rattle.machine.proofs.Machine.{Stance, idle, d1, waits, inside, x1, at, phase, side, out, step_waiting, outcome, step_arm, turn_step, begin_arm, admit_arm, leave_arm, may_step, changed, changed_same, changed_other, step, Machine, moved_to, moved}
 use Rattle.machine.proofs.Invariant.{Own}

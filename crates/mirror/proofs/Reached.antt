@@ -25,7 +25,7 @@ use Rattle.door.proofs.Bools.{and_T}
 use Rattle.door.proofs.Accepted.{for_arm_none, step_none, known_arm}
 use Rattle.door.proofs.Always.{run_holds}
 use Rattle.door.proofs.Effects.{Known, Visits, begins, admits, leaves, Does, nothing, visits, steps, does, no_move, no_step}
-use Rattle.door.proofs.Runs.{run_n}
+use Rattle.door.proofs.Unaltered.{run_n}
 use Rattle.door.proofs.Rooms.{arms_few, arms_fit, length_cleared}
 use Rattle.machine.specs.Kinds.{Kind}
 use Rattle.machine.proofs.Machine.{idle, at, out, Move, begin, step, admit, leave, is_step, is_begin, allowed, may_step, Machine, moved}

@@ -17,8 +17,8 @@ use Rattle.door.proofs.Bools.{and_T, T_and, T_or_left, is_true}
 use Rattle.door.proofs.Rooms.{arms_few}
 use Rattle.door.proofs.Accepted.{arm_in}
 use Rattle.door.proofs.Meant.{start_fresh}
-use Rattle.overtaking.proofs.Entries.{Passed, passed_run, bound, once_itself as exactly_once, start_passed}
-use Rattle.door.proofs.Runs.{run_n}
+use Rattle.overtaking.proofs.Entries.{Overtaken, overtaken_run, bound, once_itself as exactly_once, start_overtaken}
+use Rattle.door.proofs.Unaltered.{run_n}
 use Rattle.overtaking.proofs.Rows.{Row, Kept, kept_run}
 
 module _ {At : Type 0} {door : Table At} (phased : Phased door) (rules : ShowsRules door) (making : Making) (past : List Call) where
@@ -40,8 +40,8 @@ module _ {At : Type 0} {door : Table At} (phased : Phased door) (rules : ShowsRu
   waits_past : (w : ℕ) → Waits door now w → IsPastDoorway door now w
   waits_past w h = let y = and_T (is_arm now w) (is_in door P.W now w) h in T_and (is_arm now w) (past_doorway door now w) y.0 (T_or_left (is_in door P.W now w) _ y.1)
 
-  counts : (w b : ℕ) → 1 ≤ w → w ≤ start.n → 1 ≤ b → b ≤ start.n → Passed door w b now (entries_since door w b start past) (idle_then door w b start past)
-  counts w b wlo whi blo bhi = passed_run door phased rules w b wlo blo past start whi bhi 0 false (start_passed door phased making w b)
+  counts : (w b : ℕ) → 1 ≤ w → w ≤ start.n → 1 ≤ b → b ≤ start.n → Overtaken door w b now (entries_since door w b start past) (idle_then door w b start past)
+  counts w b wlo whi blo bhi = overtaken_run door phased rules w b wlo blo past start whi bhi 0 false (start_overtaken door phased making w b)
 
   now_in : (w : ℕ) → w ≤ start.n → w ≤ now.n
   now_in w h = let z = run_n door past start in omega arith
@@ -81,7 +81,7 @@ module _ {At : Type 0} {door : Table At} (phased : Phased door) (rules : ShowsRu
       let y = arm_range b hb in
       subst (λ r. Kept door w b now (latest_lost door w b start past r) (entries_since door w b start past) (idle_then door w b start past))
       (ap (λ t. cond t (0 + entries_before door w b start past) 0) (fresh_phase w))
-      (kept_run door w b start.n x.0 x.1 y.0 y.1 few phased rules past start refl 0 0 false (start_passed door phased making w b) (fresh_kept w b x.0 x.1 y.0 y.1))
+      (kept_run door w b start.n x.0 x.1 y.0 y.1 few phased rules past start refl 0 0 false (start_overtaken door phased making w b) (fresh_kept w b x.0 x.1 y.0 y.1))
 
   -- how often an arm is passed, of any door that shows the rules
   pub passing : Passing door start past now

@@ -23,7 +23,7 @@ use Rattle.overtaking.proofs.Overtaking.{Inv, inv_change, past_doorway as is_pas
 use Rattle.door.proofs.Meant.{two_phases, phase_meant, change_at, start_rests}
 use Rattle.door.proofs.Origins.{origin_made, origin_after}
 use Rattle.door.proofs.Records.{Became, stays, visited, moved_on, became_by}
-use Rattle.door.proofs.Runs.{after_n}
+use Rattle.door.proofs.Unaltered.{after_n}
 
 absorb : (x y : Bool) → (T y → T x) → (x && y) ≡ y
 absorb x y h = grind arith
@@ -90,15 +90,15 @@ module _ {At : Type 0} (door : Table At) where
         rw (sym ends_shown, sym enters_shown, sym (phase_meant door s P.W v lo hi), sym (phase_meant door (after door s c) P.W v lo (let z = after_n door s c in omega arith))) x
 
   -- k entries of b since w ended its doorway, o tells whether b was idle then
-  pub record Passed (w b : ℕ) (s : State At) (k : ℕ) (o : Bool) : Type 0 where
+  pub record Overtaken (w b : ℕ) (s : State At) (k : ℕ) (o : Bool) : Type 0 where
     pub origin : Origin door s
     pub inv : Inv (meaning_of door s)
     pub counted : Counted w b (meaning_of door s) k o
 
   module _ (phased : Phased door) (rules : ShowsRules door) (w b : ℕ) (wlo : 1 ≤ w) (blo : 1 ≤ b) where
-    pub passed_call : (s : State At) → w ≤ s.n → b ≤ s.n → (k : ℕ) (o : Bool) → Passed w b s k o → (c : Call)
-        → Passed w b (after door s c) (cond (ends_doorway door w s c) 0 (cond (goes_inside door b s c) (k + 1) k)) (cond (ends_doorway door w s c) (is_in door P.I s b) o)
-    passed_call s whi bhi k o h c =
+    pub overtaken_call : (s : State At) → w ≤ s.n → b ≤ s.n → (k : ℕ) (o : Bool) → Overtaken w b s k o → (c : Call)
+        → Overtaken w b (after door s c) (cond (ends_doorway door w s c) 0 (cond (goes_inside door b s c) (k + 1) k)) (cond (ends_doorway door w s c) (is_in door P.I s b) o)
+    overtaken_call s whi bhi k o h c =
         let change = change_at door rules s h.origin c in
         record {
           origin = origin_after door s c _ refl h.origin;
@@ -108,20 +108,20 @@ module _ {At : Type 0} (door : Table At) where
               (count_change w b (meaning_of door s) (meaning_of door (after door s c)) (arm_of c) change h.inv k o h.counted);
         }
 
-    pub passed_run : (cs : List Call) (s : State At) → w ≤ s.n → b ≤ s.n → (k : ℕ) (o : Bool) → Passed w b s k o → Passed w b (run door s cs) (count_on door w b s cs k) (latest_idle door w b s cs o)
-    passed_run [] s whi bhi k o h = h
-    passed_run (c ∷ cs) s whi bhi k o h = passed_run cs (after door s c) (let z = after_n door s c in omega arith) (let z = after_n door s c in omega arith) _ _ (passed_call s whi bhi k o h c)
+    pub overtaken_run : (cs : List Call) (s : State At) → w ≤ s.n → b ≤ s.n → (k : ℕ) (o : Bool) → Overtaken w b s k o → Overtaken w b (run door s cs) (count_on door w b s cs k) (latest_idle door w b s cs o)
+    overtaken_run [] s whi bhi k o h = h
+    overtaken_run (c ∷ cs) s whi bhi k o h = overtaken_run cs (after door s c) (let z = after_n door s c in omega arith) (let z = after_n door s c in omega arith) _ _ (overtaken_call s whi bhi k o h c)
 
   pub side_then : (w : ℕ) (s : State At) → 1 ≤ w → w ≤ s.n → T (past_doorway door s w) → (t : Bool) × T (is_past t ((meaning_of door s).arms w))
   side_then w s lo hi t = past_side ((meaning_of door s).arms w) (rw (phase_meant door s P.W w lo hi, phase_meant door s P.F w lo hi, phase_meant door s P.X w lo hi) t)
 
-  pub bound : (w b : ℕ) (s : State At) → 1 ≤ w → w ≤ s.n → (k : ℕ) (o : Bool) → Passed w b s k o → T (past_doorway door s w) → (k ≤ 2) × (T o → k ≤ 1)
+  pub bound : (w b : ℕ) (s : State At) → 1 ≤ w → w ≤ s.n → (k : ℕ) (o : Bool) → Overtaken w b s k o → T (past_doorway door s w) → (k ≤ 2) × (T o → k ≤ 1)
   bound w b s lo hi k o h t =
       let v = side_then w s lo hi t in
       let x = h.counted v.0 v.1 in
       ((let y = x.0 in omega arith), λ t. let y = x.1 t in omega arith)
 
-  pub once_itself : (w : ℕ) (s : State At) → 1 ≤ w → w ≤ s.n → (k : ℕ) (o : Bool) → Passed w w s k o → T (past_doorway door s w) → k ≡ cond (is_in door P.W s w) 0 1
+  pub once_itself : (w : ℕ) (s : State At) → 1 ≤ w → w ≤ s.n → (k : ℕ) (o : Bool) → Overtaken w w s k o → T (past_doorway door s w) → k ≡ cond (is_in door P.W s w) 0 1
   once_itself w s lo hi k o h t =
       let v = side_then w s lo hi t in
       let x = h.counted v.0 v.1 in
@@ -130,8 +130,8 @@ module _ {At : Type 0} (door : Table At) where
       rw (sym (phase_meant door s P.W w lo hi)) (grind (arith, nat_tests))
 
   -- from a making on
-  pub start_passed : Phased door → (making : Making) (w b : ℕ) → Passed w b (made door making) 0 false
-  start_passed phased making w b = record {
+  pub start_overtaken : Phased door → (making : Making) (w b : ℕ) → Overtaken w b (made door making) 0 false
+  start_overtaken phased making w b = record {
     origin = origin_made door making _ refl;
     inv = λ k. let e = start_rests door phased making k in grind arith;
     counted = λ u q. let e = start_rests door phased making w in grind arith;

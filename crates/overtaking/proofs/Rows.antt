@@ -21,9 +21,9 @@ use Rattle.door.specs.declared.phase.Phase.{Phase}
 use Rattle.door.specs.declared.phase.Phase.TheVariants as P
 use Rattle.door.proofs.Bounds.{all_there}
 use Rattle.door.proofs.Effects.{begins, admits, leaves, Does, nothing, visits, steps, does, no_step}
-use Rattle.door.proofs.Seen.{tallied_table}
-use Rattle.overtaking.proofs.Entries.{Passed, passed_call, bound, waiting_call}
-use Rattle.door.proofs.Runs.{after_n}
+use Rattle.door.proofs.SameButRow.{tallied_table}
+use Rattle.overtaking.proofs.Entries.{Overtaken, overtaken_call, bound, waiting_call}
+use Rattle.door.proofs.Unaltered.{after_n}
 
 -- what a call makes of the count r of b in w's latest wait, and of the count k since w ended its doorway:
 -- w ends its doorway by it (E), waited before it (V) and after it (W), or goes inside by it (I); b goes inside by it (G)
@@ -191,7 +191,7 @@ module _ {At : Type 0} (door : Table At) where
           (cases_eq i w)
 
     module _ (phased : Phased door) (rules : ShowsRules door) where
-      pub kept_run : (cs : List Call) (s : State At) → s.n ≡ n → (r k : ℕ) (o : Bool) → Passed door w b s k o → Kept door w b s r k o
+      pub kept_run : (cs : List Call) (s : State At) → s.n ≡ n → (r k : ℕ) (o : Bool) → Overtaken door w b s k o → Kept door w b s r k o
           → Kept door w b (run door s cs) (latest_lost door w b s cs (cond (is_in door P.W s w) (r + entries_before door w b s cs) r)) (count_on door w b s cs k) (latest_idle door w b s cs o)
       kept_run [] s sn r k o past h = let e : cond (is_in door P.W s w) (r + 0) r ≡ r = grind arith in rw e h
       kept_run (c ∷ cs) s sn r k o past h =
@@ -207,7 +207,7 @@ module _ {At : Type 0} (door : Table At) where
           let moves = waiting_call door phased s past.origin c w wlo whi' rules in
           let starts : T E → T W = λ x. grind arith in
           let over : T I → T W → ⊥ = λ x y. grind arith in
-          let past' = passed_call door phased rules w b wlo blo s whi' bhi' k o past c in
+          let past' = overtaken_call door phased rules w b wlo blo s whi' bhi' k o past c in
           let bound' : T W → _ = λ y. bound door w b t wlo (let z = after_n door s c in omega arith) _ _ past' (T_or_left W _ y) in
           let x = entries_before door w b t cs in
           rw (onward E V W I G starts over moves.0 moves.1 r x)

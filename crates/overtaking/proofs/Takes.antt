@@ -15,8 +15,8 @@ use Rattle.door.proofs.Bools.{same}
 use Rattle.overtaking.proofs.Bound.{arm_range, past_range}
 use Rattle.overtaking.proofs.Overtaking.{Inv, is_past, left, count, remaining, goes_at, still, idle_stays, remaining_change}
 use Rattle.door.proofs.Meant.{phase_meant, change_at, start_rests}
-use Rattle.overtaking.proofs.Entries.{ends_shown, enters_shown, Passed, passed_call, side_then, start_passed}
-use Rattle.door.proofs.Runs.{after_n}
+use Rattle.overtaking.proofs.Entries.{ends_shown, enters_shown, Overtaken, overtaken_call, side_then, start_overtaken}
+use Rattle.door.proofs.Unaltered.{after_n}
 
 -- 1 where an arm inside may still take: it has gone inside and not taken since
 abbrev room : Bool → Stage → ℕ
@@ -68,7 +68,7 @@ module _ (w b : ℕ) (m m' : Meaning) (i : ℕ) (c : Change m m' i) (own : Inv m
 
 module _ {At : Type 0} (door : Table At) (phased : Phased door) (rules : ShowsRules door) (w b : ℕ) (wlo : 1 ≤ w) (blo : 1 ≤ b) where
   -- along a list of events
-  taken_run : (es : List Event) (s : State At) → w ≤ s.n → b ≤ s.n → (j k : ℕ) (o may : Bool) → Passed door w b s j o → Taken w b (meaning_of door s) k o may → TakesOnce door b s es may
+  taken_run : (es : List Event) (s : State At) → w ≤ s.n → b ≤ s.n → (j k : ℕ) (o may : Bool) → Overtaken door w b s j o → Taken w b (meaning_of door s) k o may → TakesOnce door b s es may
       → T (past_doorway door (run door s (calls_of es)) w) → (takes_on door w b s es k ≤ 2) × (T (latest_idle door w b s (calls_of es) o) → takes_on door w b s es k ≤ 1)
   taken_run [] s whi bhi j k o may h taken once there =
       let v = side_then door w s wlo whi there in
@@ -77,7 +77,7 @@ module _ {At : Type 0} (door : Table At) (phased : Phased door) (rules : ShowsRu
   taken_run (called c ∷ es) s whi bhi j k o may h taken once there =
       let t = after door s c in
       taken_run es t (let z = after_n door s c in omega arith) (let z = after_n door s c in omega arith) _ _ _ (goes_inside door b s c || may)
-      (passed_call door phased rules w b wlo blo s whi bhi j o h c)
+      (overtaken_call door phased rules w b wlo blo s whi bhi j o h c)
       (rw (sym (ends_shown door phased s h.origin c w wlo whi), sym (enters_shown door phased s h.origin c b blo bhi), sym (phase_meant door s P.I b blo bhi))
       (taken_change w b (meaning_of door s) (meaning_of door t) (arm_of c) (change_at door rules s h.origin c) h.inv k o may taken))
       once there
@@ -93,4 +93,4 @@ taking door phased rules making events w b hw hb once =
     let past = calls_of events in
     let x = past_range phased rules making past w hw in
     let y = arm_range phased rules making past b hb in
-    taken_run door phased rules w b x.0 y.0 events start x.1 y.1 0 0 false false (start_passed door phased making w b) (λ s h. let e = start_rests door phased making w in absurd (grind arith)) once x.2
+    taken_run door phased rules w b x.0 y.0 events start x.1 y.1 0 0 false false (start_overtaken door phased making w b) (λ s h. let e = start_rests door phased making w in absurd (grind arith)) once x.2

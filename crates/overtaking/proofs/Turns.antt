@@ -30,7 +30,7 @@ use Rattle.door.proofs.Effects.{begins, admits, leaves}
 use Rattle.door.proofs.Meant.{phase_meant, two_phases, change_at, start_rests}
 use Rattle.door.proofs.Origins.{origin_made, origin_after}
 use Rattle.door.proofs.Records.{Became, stays, visited, moved_on, became_by}
-use Rattle.door.proofs.Runs.{after_n, run_n}
+use Rattle.door.proofs.Unaltered.{after_n, run_n}
 
 -- an access turns the bit exactly if it changes register 0
 turned_so : (high : ℕ) (regs : List ℕ) (a : Access) → turns_bit high regs a ≡ not (eqb (get_or (regs_after high regs a) group 0) (get_or regs group 0))

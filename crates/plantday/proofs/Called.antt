@@ -11,7 +11,7 @@ use Rattle.door.specs.Turns.{TurnsTold}
 use Rattle.door.specs.declared.call.Call.{Call}
 use Rattle.overtaking.proofs.Fairness.{fair}
 use Rattle.door.proofs.Origins.{run_append}
-use Rattle.door.proofs.Runs.{run_n, memory_name}
+use Rattle.door.proofs.Unaltered.{run_n, memory_name}
 use Rattle.overtaking.proofs.Turns.{turns_told}
 use Rattle.plantday.specs.Day.{Called, FairDay}
 

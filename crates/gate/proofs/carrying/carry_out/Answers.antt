@@ -7,7 +7,7 @@ use Rattle.door.specs.States.{made}
 use Rattle.door.specs.Turns.{TurnsTold}
 use Rattle.door.specs.declared.call.Call.TheVariants.{Begin}
 use Rattle.door.proofs.Origins.{run_more}
-use Rattle.door.proofs.Runs.{memory_name}
+use Rattle.door.proofs.Unaltered.{memory_name}
 use Rattle.overtaking.proofs.Bound.{passing}
 use Rattle.overtaking.proofs.Fairness.{fair}
 use Rattle.overtaking.proofs.Turns.{turns_told}

@@ -1,6 +1,6 @@
 use Rattle.std.proofs.Common.{◌≡◌, ℕ, ◌≤◌, List, [], length, Ok, sym, ap, ◌∙◌, arith, rules}
 use Rattle.std.proofs.lemmas.Bool.Decides.{nat_tests}
-use Rattle.door.proofs.Runs.{memory_name}
+use Rattle.door.proofs.Unaltered.{memory_name}
 use Rattle.door.specs.States.{made}
 use Rattle.schedule.specs.Reading.{Contents}
 use Rattle.play.specs.Limits.{report_room}

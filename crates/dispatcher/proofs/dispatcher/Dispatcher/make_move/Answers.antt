@@ -1,6 +1,6 @@
 use Rattle.std.proofs.Common.{◌≡◌, subst, sym, ap, ◌∙◌, rules, arith}
 use Rattle.door.proofs.Bools.{is_true}
-use Rattle.door.proofs.Runs.{run_n}
+use Rattle.door.proofs.Unaltered.{run_n}
 use Rattle.ring.specs.Rings.{items}
 use Rattle.dispatcher.specs.Dispatchers.{Dispatch, NoPassOut}
 use Rattle.dispatcher.specs.Moves.{is_busy, in_turn, opening}
