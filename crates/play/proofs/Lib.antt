@@ -1,4 +1,2 @@
 pub mod Fits
-pub mod Lent
-pub mod Left
 pub mod Elsewhere

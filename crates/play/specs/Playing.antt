@@ -1,18 +1,15 @@
 -- What playing a file comes to.
-use Rattle.std.specs.Prelude.{◌≡◌, ℕ, ◌+◌, ◌≤◌, IfOk, List, [], ◌∷◌, length, Ok, Err, Option, Result, is_some, if◌then◌else◌, nat_le}
+use Rattle.std.specs.Prelude.{◌≡◌, ℕ, ◌≤◌, IfOk, List, [], length, Ok, Err, Option, Result, if◌then◌else◌, nat_le}
 use Rattle.bank.specs.Lent.{Lent}
-use Rattle.door.specs.Calls.{refusal_of, after, unless}
 use Rattle.door.specs.Making.{Making, arms_for}
 use Rattle.door.specs.Table.{Table}
 use Rattle.door.specs.States.{State, made}
-use Rattle.door.specs.declared.call.Call.TheVariants.{Begin as begin, Step as step, Admit as admit, Leave as leave}
 use Rattle.door.specs.declared.refusal.Refusal.{Refusal}
+use Rattle.obeying.specs.Obeying.{obeyed_all, refusals, each_refusal}
 use Rattle.schedule.specs.FileLimits.{file_limit}
 use Rattle.schedule.specs.Reading.{Contents, says}
 use Rattle.schedule.specs.declared.fault.PlayFault.{PlayFault}
 use Rattle.schedule.specs.declared.fault.PlayFault.TheVariants.{LongFile, ShortMemory}
-use Rattle.schedule.specs.declared.order_number.Order.{Order}
-use Rattle.schedule.specs.declared.order_number.Order.TheVariants.{Begin, Step, Leave}
 use Rattle.play.specs.Limits.{report_room}
 use Rattle.play.specs.Reports.{report_text}
 use Rattle.play.specs.Text.{overwritten}
@@ -27,45 +24,15 @@ abbrev pub over : Lent → ℕ → List ℕ → Contents → Making
 over lent high regs c = record { memory = lent; high = high; number = 0; wanted = c.arms; regs = regs }
 
 module _ {At : Type 0} (door : Table At) where
-  -- why the gate refuses an order; none where it obeys
-  abbrev pub order_refusal : State At → Order → Option Refusal
-  order_refusal s (Begin i) = refusal_of door s (begin i)
-  order_refusal s (Step i) = refusal_of door s (step i)
-  order_refusal s (Leave i) = refusal_of door s (admit i)
-
-  -- an arm that is admitted and leaves
-  abbrev pub left_at_once : State At → ℕ → State At
-  left_at_once s i = unless (refusal_of door s (admit i)) (after door (after door s (admit i)) (leave s.number i)) s
-
-  -- the gate after an order; a leave order admits and leaves
-  abbrev pub obeyed : State At → Order → State At
-  obeyed s (Begin i) = after door s (begin i)
-  obeyed s (Step i) = after door s (step i)
-  obeyed s (Leave i) = left_at_once s i
-
-  -- the gate after all orders, and how many it refused
-  abbrev pub obeyed_all : State At → List Order → State At
-  obeyed_all s [] = s
-  obeyed_all s (o ∷ os) = obeyed_all (obeyed s o) os
-
-  abbrev pub refusals : State At → List Order → ℕ
-  refusals s [] = 0
-  refusals s (o ∷ os) = (if is_some (order_refusal s o) then 1 else 0) + refusals (obeyed s o) os
-
-  -- why the gate refuses each of the orders, one after another; none where it obeys
-  abbrev pub each_refusal : State At → List Order → List (Option Refusal)
-  each_refusal s [] = []
-  each_refusal s (o ∷ os) = order_refusal s o ∷ each_refusal (obeyed s o) os
-
   -- as it is made and after its orders
   abbrev pub start : Lent → ℕ → List ℕ → Contents → State At
   start lent high regs c = made door (over lent high regs c)
 
   abbrev pub end : Lent → ℕ → List ℕ → Contents → State At
-  end lent high regs c = obeyed_all (start lent high regs c) c.orders
+  end lent high regs c = obeyed_all door (start lent high regs c) c.orders
 
   abbrev pub play_text : Lent → ℕ → List ℕ → Contents → List ℕ
-  play_text lent high regs c = report_text door (end lent high regs c) (length c.orders) (refusals (start lent high regs c) c.orders)
+  play_text lent high regs c = report_text door (end lent high regs c) (length c.orders) (refusals door (start lent high regs c) c.orders)
 
   -- what play answers, and what the bank and the report memory then hold
   abbrev pub play_answer : Lent → ℕ → List ℕ → Result Contents PlayFault → Result ℕ PlayFault
@@ -103,7 +70,7 @@ module _ {At : Type 0} (door : Table At) where
 
   -- why the gate of a play refused each order of the file
   abbrev pub play_refusals : Lent → ℕ → List ℕ → Result Contents PlayFault → List (Option Refusal)
-  play_refusals lent high regs (Ok c) = each_refusal (start lent high regs c) c.orders
+  play_refusals lent high regs (Ok c) = each_refusal door (start lent high regs c) c.orders
   play_refusals lent high regs (Err fault) = []
 
   -- another bank gives a file as many arms
@@ -126,5 +93,5 @@ module _ {At : Type 0} (door : Table At) where
 
   -- a gate in hand after the orders of a file
   abbrev pub obeyed_by : Result Contents PlayFault → State At → State At
-  obeyed_by (Ok c) s = obeyed_all s c.orders
+  obeyed_by (Ok c) s = obeyed_all door s c.orders
   obeyed_by (Err fault) s = s

@@ -1,8 +1,6 @@
 ghost use Rattle.std.specs.Prelude.{◌≡◌, if◌then◌else◌, is_some};
-ghost use Rattle.std.specs.Result.{result_err};
-ghost use Rattle.door.specs.Calls.{refusal_of};
-ghost use Rattle.door.specs.declared.call.Call.TheVariants.{Admit};
-ghost use Rattle.play.specs.Playing.{order_refusal, obeyed, left_at_once, playable, obeyed_all, refusals, IsPlayed, SameElsewhere};
+ghost use Rattle.obeying.specs.Obeying.{obeyed_all, refusals};
+ghost use Rattle.play.specs.Playing.{playable, IsPlayed, SameElsewhere};
 
 use crate::page::{ask_room, put_report};
 use crate::service::Service;
@@ -10,7 +8,8 @@ use bank::Bank;
 use door::Refusal;
 use doors::Door;
 use gate::Gate;
-use schedule::{File, Order, PlayFault, Schedule};
+use obeying::obey;
+use schedule::{File, PlayFault, Schedule};
 use std::marker::PhantomData;
 
 /// The bank of a play that is over, and the length of its report in bytes or why there was none; G is the kind of gate that played.
@@ -20,29 +19,6 @@ pub struct Played<B, G> {
     pub answer: Result<usize, PlayFault>,
     // That a gate of this kind is no larger than memory is known of a function whose header names the kind.
     kind: PhantomData<G>,
-}
-
-// Admits an arm and lets it leave at once, unless the gate refuses it.
-#[tactic(auto, using(crate::proofs::Left::left_told))]
-fn leave_at_once<B: Bank, D: Door>(gate: &mut Gate<B, D>, arm: usize) -> Result<(), Refusal>
-    ensures answer { result_err result ≡ refusal_of D.table gate.old (Admit arm) }
-    ensures after { gate.new ≡ left_at_once D.table gate.old arm }
-{
-    let pass = gate.admit(arm)?;
-    gate.leave(pass).unwrap();
-    Ok(())
-}
-
-// Obeys one order, unless the gate refuses it.
-fn obey<B: Bank, D: Door>(gate: &mut Gate<B, D>, order: Order) -> Option<Refusal>
-    ensures answer { result ≡ order_refusal D.table gate.old order }
-    ensures after { gate.new ≡ obeyed D.table gate.old order }
-{
-    match order {
-        Order::Begin(arm) => gate.begin(usize::from(arm)).err(),
-        Order::Step(arm) => gate.step(usize::from(arm)).err(),
-        Order::Leave(arm) => leave_at_once(gate, usize::from(arm)).err(),
-    }
 }
 
 // An order that was refused counts.

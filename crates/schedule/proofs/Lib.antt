@@ -1,3 +1,4 @@
+pub mod Appended
 pub mod Examples
 pub mod FromFile
 pub mod FromList

@@ -1,5 +1,5 @@
 -- What one more number makes of the memory.
-use Rattle.std.proofs.Common.{◌≡◌, ℕ, ◌+◌, ◌<◌, ◌≤◌, List, ◌++◌, length, get_or, take, drop, sym, ap, arith, length-append}
+use Rattle.std.proofs.Common.{◌≡◌, ℕ, ◌+◌, ◌<◌, ◌≤◌, List, ◌++◌, length, get_or, take, drop, sym, arith, length-append}
 use Rattle.std.proofs.lemmas.List.{take_at, drop-drop, drop_at}
 use Rattle.std.proofs.lemmas.List.Folds.{length-flat_map-take}
 use Rattle.schedule.specs.declared.order_number.Order.{Order}
@@ -13,11 +13,11 @@ abbrev pub no_order : Order
 no_order = Begin 0
 
 -- the bytes of one more order fit
-pub next_within : (arms number i : ℕ) (os : List Order) → i < length os → number ≡ order_number (get_or os i no_order)
-    → length (file_bytes arms (take i os)) + length (groups number) ≤ length (file_bytes arms os)
-next_within arms number i os h e =
+pub next_within : (arms i : ℕ) (os : List Order) → i < length os
+    → length (file_bytes arms (take i os)) + length (groups (order_number (get_or os i no_order))) ≤ length (file_bytes arms os)
+next_within arms i os h =
     let w = length-flat_map-take (λ o. groups (order_number o)) os i no_order h in
-    omega (arith, w, length-append {A = ℕ}, ap (λ k. length (groups k)) e)
+    omega (arith, w, length-append {A = ℕ})
 
 -- one more list of bytes after those before it
 pub one_more : (before bytes memory out : List ℕ) (at : ℕ) → at ≡ length before → out ≡ before ++ drop at memory

@@ -1,13 +1,13 @@
--- Reader and writer are inverse, both ways.
-use Rattle.std.specs.Prelude.{◌≡◌, ℕ, ◌<◌, ◌≤◌, All, List, length, take, Ok, Err, Result}
+-- Reader and writer are inverse, both ways, and a file that grows by an order is that of the list with this order more.
+use Rattle.std.specs.Prelude.{◌≡◌, ℕ, ◌<◌, ◌≤◌, All, IfOk, List, [], ◌∷◌, ◌++◌, length, take, Ok, Err, Result}
 use Rattle.schedule.specs.declared.order_number.Order.{Order}
 use Rattle.schedule.specs.declared.schedule_file.Heading.{Heading}
 use Rattle.schedule.specs.declared.fault.PlayFault.{PlayFault}
 use Rattle.schedule.specs.declared.writer.WriteRefusal.{WriteRefusal}
 use Rattle.schedule.specs.FileLimits.{arm_limit, file_limit, largest_arm}
 use Rattle.schedule.specs.Orders.{arm_of}
-use Rattle.schedule.specs.Reading.{Contents, says}
-use Rattle.schedule.specs.Writing.{file_bytes, file_of}
+use Rattle.schedule.specs.Reading.{Contents, contents, says}
+use Rattle.schedule.specs.Writing.{file_bytes, file_of, write_answer, write_memory}
 
 abbrev pub bytes_of : Contents → List ℕ
 bytes_of c = file_bytes c.arms c.orders
@@ -60,3 +60,28 @@ WasRead (Err fault) file memory = Unit {0}
 abbrev pub WasWritten : Result ℕ WriteRefusal → Contents → List ℕ → Type 0
 WasWritten (Ok n) c memory = IsLawful c × (says (take n memory) ≡ Ok c)
 WasWritten (Err refusal) c memory = Unit {0}
+
+-- memory begins with the file of a list, which ends at a place
+pub record HoldsFile (c : Contents) (memory : List ℕ) (at : ℕ) : Type 0 where
+  pub is_file : file_of c.arms c.orders ≡ Ok (take at memory)
+  pub within : at ≤ length memory
+
+-- a call came to just what writing a whole list comes to: the same answer and the same memory, which then begins with the
+-- list's file; that reads back
+pub record IsAsWritten (answer_is : Result ℕ WriteRefusal) (c : Contents) (before after : List ℕ) : Type 0 where
+  pub answer : answer_is ≡ write_answer c.arms c.orders (length before)
+  pub memory : after ≡ write_memory c.arms c.orders before
+  pub holds : IfOk answer_is (λ end. HoldsFile c after end)
+  pub reads_back : WasWritten answer_is c after
+
+-- a file is started as that of no orders
+abbrev pub WasStarted : Result ℕ WriteRefusal → ℕ → List ℕ → List ℕ → Type 0
+WasStarted answer arms before after = IsAsWritten answer (contents arms []) before after
+
+-- a list with one order more
+abbrev pub with_order : Contents → Order → Contents
+with_order c order = contents c.arms (c.orders ++ order ∷ [])
+
+-- an order appended to the file of any list makes the file of the list with this order more, or is refused as that list is
+pub record WasAppended (answer : Result ℕ WriteRefusal) (order : Order) (at : ℕ) (before after : List ℕ) : Type 0 where
+  pub to_file : (c : Contents) → HoldsFile c before at → IsAsWritten answer (with_order c order) before after

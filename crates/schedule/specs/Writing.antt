@@ -1,5 +1,5 @@
--- The file of an arm count and a list of orders, or why it is refused.
-use Rattle.std.specs.Prelude.{ℕ, codes, Bool, if◌then◌else◌, List, ◌++◌, length, Ok, Err, Result, nat_le}
+-- The file of an arm count and a list of orders, or why it is refused; and a file that grows by one order.
+use Rattle.std.specs.Prelude.{ℕ, ◌+◌, codes, Bool, if◌then◌else◌, List, ◌++◌, length, take, drop, Ok, Err, is_ok, Result, nat_le}
 use Rattle.std.specs.List.{flat_map, list_all}
 use Rattle.schedule.specs.declared.order_number.Order.{Order}
 use Rattle.schedule.specs.declared.writer.WriteRefusal.{WriteRefusal}
@@ -60,3 +60,32 @@ file_or_nothing (Err refusal) memory = memory
 -- what the memory then holds
 abbrev pub write_memory : ℕ → List Order → List ℕ → List ℕ
 write_memory arms orders memory = file_or_nothing (file_of arms orders) memory
+
+-- memory after bytes were written at a place, which changes no others
+abbrev pub written_at : ℕ → List ℕ → List ℕ → List ℕ
+written_at at bytes memory = take at memory ++ bytes ++ drop (at + length bytes) memory
+
+-- a file that grows one order at a time. What starting it answers, in memory for so many bytes, and what the memory then holds
+abbrev pub start_answer : ℕ → ℕ → Result ℕ WriteRefusal
+start_answer arms room =
+    if is_arm_count arms
+    then (if nat_le (length (groups arms)) room then Ok (length (groups arms)) else Err Full)
+    else Err ArmCount
+
+abbrev pub start_memory : ℕ → List ℕ → List ℕ
+start_memory arms memory = if is_ok (start_answer arms (length memory)) then written_at 0 (groups arms) memory else memory
+
+-- where the file ends with one order more, or the refusal that comes first
+abbrev pub end_or_refusal : Order → ℕ → ℕ → Result ℕ WriteRefusal
+end_or_refusal order end room =
+    if nat_le (order_number order) largest_number
+    then (if nat_le end file_limit then (if nat_le end room then Ok end else Err Full) else Err LongFile)
+    else Err Large
+
+-- what appending an order answers, to a file that ends at a place, and what the memory then holds
+abbrev pub append_answer : Order → ℕ → ℕ → Result ℕ WriteRefusal
+append_answer order at room = end_or_refusal order (at + length (groups (order_number order))) room
+
+abbrev pub append_memory : Order → ℕ → List ℕ → List ℕ
+append_memory order at memory =
+    if is_ok (append_answer order at (length memory)) then written_at at (groups (order_number order)) memory else memory

@@ -1,6 +1,8 @@
 //! Schedule files: numbers, orders, the faults of both, and the reader and the writer.
 #![tactic(auto)]
 
+// A file that grows one order at a time.
+mod appending;
 // Faults, and the layer that each arises in.
 mod fault;
 // The limits of a file.
@@ -20,6 +22,7 @@ mod schedule_file;
 // Orders made into a file.
 mod writer;
 
+pub use appending::{append, start};
 pub use fault::{Layer, NumberFault, PlayFault, ScheduleFault};
 pub use limit::{ARM_LIMIT, FILE_LIMIT, LARGEST_NUMBER};
 pub use order_iter::Orders;

@@ -3,6 +3,7 @@ ghost use Rattle.schedule.specs.Laws.{Inverse, IsLawful, WasWritten};
 ghost use Rattle.schedule.specs.Reading.{contents};
 ghost use Rattle.schedule.specs.Writing.{write_refusal_number, file_bytes, file_of, length_of, write_answer, write_memory};
 
+use crate::appending::put_order;
 use crate::limit::{ARM_LIMIT, FILE_LIMIT};
 use crate::number::{fits_two_groups, put, width};
 use crate::order_number::Order;
@@ -88,7 +89,7 @@ fn fill(arms: usize, orders: &[Order], out: &mut [u8]) -> usize
     for (i, order) in orders.iter().enumerate() {
         // The arm count and each of the i orders so far have a byte at least.
         prove!(at > i);
-        at = put(out, at, order.number());
+        at = put_order(*order, out, at);
     }
     at
 }

@@ -1,6 +1,6 @@
 use Rattle.std.proofs.Common.{◌≡◌, ◌+◌, ◌≤◌, length}
 use Rattle.schedule.specs.FileLimits.{file_limit}
-use Rattle.play.specs.Playing.{obeyed_all, refusals}
+use Rattle.obeying.specs.Obeying.{obeyed_all, refusals}
 use Rattle.play.proofs.player.obey_all.Given as goal
 
 -- what the gate makes of the orders that are left is what it makes of all from the start

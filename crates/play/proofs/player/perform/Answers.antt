@@ -3,11 +3,12 @@ use Rattle.std.proofs.lemmas.Bool.Decides.{nat_tests}
 use Rattle.door.proofs.Unaltered.{memory_name}
 use Rattle.door.specs.States.{made}
 use Rattle.schedule.specs.Reading.{Contents}
+use Rattle.obeying.specs.Obeying.{obeyed_all, refusals}
+use Rattle.obeying.proofs.Lent.{obeyed_all_name}
 use Rattle.play.specs.Limits.{report_room}
-use Rattle.play.specs.Playing.{playable, start, end, obeyed_all, refusals, play_text, play_answer, play_regs, play_lent, play_memory}
+use Rattle.play.specs.Playing.{playable, start, end, play_text, play_answer, play_regs, play_lent, play_memory}
 use Rattle.play.specs.Reports.{report_text}
 use Rattle.play.specs.Text.{overwritten}
-use Rattle.play.proofs.Lent.{obeyed_all_name}
 use Rattle.play.proofs.player.perform.Goals as goal
 
 -- a file that can be played leaves room for a report

@@ -7,7 +7,7 @@ use Rattle.door.specs.declared.call.Call.TheVariants.{Admit as admit, Leave as l
 use Rattle.door.specs.declared.refusal.Refusal.{Refusal}
 use Rattle.gate.specs.Answers.{admit_answer}
 use Rattle.gate.specs.declared.pass.Pass.{Pass}
-use Rattle.play.specs.Playing.{left_at_once}
+use Rattle.obeying.specs.Obeying.{left_at_once}
 
 pub left_told : {At : Type 0} (door : Table At) (s admitted left : State At) (i : ℕ) (given : Result Pass Refusal) (pass : Pass)
     → given ≡ admit_answer door s i → given ≡ Ok pass → admitted ≡ after door s (admit i) → left ≡ after door admitted (leave pass.gate pass.arm)

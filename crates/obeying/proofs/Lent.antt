@@ -1,9 +1,9 @@
--- A play leaves the bank over the memory that it was over.
+-- Orders leave the bank over the memory that it was over.
 use Rattle.std.proofs.Common.{◌≡◌, List, [], ◌∷◌, refl, ◌∙◌, arith}
 use Rattle.door.specs.Table.{Table}
 use Rattle.door.specs.States.{State}
 use Rattle.schedule.specs.declared.order_number.Order.{Order}
-use Rattle.play.specs.Playing.{obeyed, obeyed_all}
+use Rattle.obeying.specs.Obeying.{obeyed, obeyed_all}
 
 module _ {At : Type 0} (door : Table At) where
   obeyed_name : (s : State At) (o : Order) → (obeyed door s o).memory.name ≡ s.memory.name

@@ -1,0 +1,3 @@
+pub mod Left
+pub mod Lent
+pub mod Twins

@@ -1,0 +1,44 @@
+-- Orders at two gates that go the same way come to the same.
+use Rattle.std.proofs.Common.{◌≡◌, ℕ, ◌+◌, if◌then◌else◌, is_some, List, [], ◌∷◌, sym, refl, subst}
+use Rattle.door.specs.Accesses.{ShowsAccesses}
+use Rattle.door.specs.Calls.{refusal_of, after, unless}
+use Rattle.door.specs.States.{State}
+use Rattle.door.specs.Table.{Table}
+use Rattle.door.specs.declared.call.Call.TheVariants.{Begin as begin, Step as step, Admit as admit, Leave as leave}
+use Rattle.door.proofs.Twins.{Twins, same_refusal, unless_same, after_twins}
+use Rattle.schedule.specs.declared.order_number.Order.{Order}
+use Rattle.schedule.specs.declared.order_number.Order.TheVariants.{Begin, Step, Leave}
+use Rattle.obeying.specs.Obeying.{order_refusal, left_at_once, obeyed, obeyed_all, refusals, each_refusal}
+
+module _ {At : Type 0} (door : Table At) (shown : ShowsAccesses door) where
+  -- one order
+  order_same : (s t : State At) (o : Order) → Twins door s t → order_refusal door t o ≡ order_refusal door s o
+  order_same s t (Begin i) h = same_refusal door s t (begin i) h.same
+  order_same s t (Step i) h = same_refusal door s t (step i) h.same
+  order_same s t (Leave i) h = same_refusal door s t (admit i) h.same
+
+  left_twins : (s t : State At) (i : ℕ) → Twins door s t → Twins door (left_at_once door s i) (left_at_once door t i)
+  left_twins s t i h =
+      let admitted = after_twins door shown s t (admit i) h in
+      let left = after_twins door shown (after door s (admit i)) (after door t (admit i)) (leave s.number i) admitted in
+      let other_left = subst (λ k. Twins door (after door (after door s (admit i)) (leave s.number i)) (after door (after door t (admit i)) (leave k i))) (sym h.same.number) left in
+      subst (λ r. Twins door (left_at_once door s i) (unless r (after door (after door t (admit i)) (leave t.number i)) t)) (sym (same_refusal door s t (admit i) h.same))
+      (unless_same door (Twins door) (refusal_of door s (admit i)) _ s _ t (λ _. other_left) h)
+
+  obeyed_twins : (s t : State At) (o : Order) → Twins door s t → Twins door (obeyed door s o) (obeyed door t o)
+  obeyed_twins s t (Begin i) h = after_twins door shown s t (begin i) h
+  obeyed_twins s t (Step i) h = after_twins door shown s t (step i) h
+  obeyed_twins s t (Leave i) h = left_twins s t i h
+
+  -- all orders
+  pub all_twins : (s t : State At) (os : List Order) → Twins door s t → Twins door (obeyed_all door s os) (obeyed_all door t os)
+  all_twins s t [] h = h
+  all_twins s t (o ∷ os) h = all_twins (obeyed door s o) (obeyed door t o) os (obeyed_twins s t o h)
+
+  pub each_same : (s t : State At) (os : List Order) → Twins door s t → each_refusal door t os ≡ each_refusal door s os
+  each_same s t [] h = refl
+  each_same s t (o ∷ os) h = λ i. order_same s t o h i ∷ each_same (obeyed door s o) (obeyed door t o) os (obeyed_twins s t o h) i
+
+  pub count_same : (s t : State At) (os : List Order) → Twins door s t → refusals door t os ≡ refusals door s os
+  count_same s t [] h = refl
+  count_same s t (o ∷ os) h = λ i. (if is_some (order_same s t o h i) then 1 else 0) + count_same (obeyed door s o) (obeyed door t o) os (obeyed_twins s t o h) i
