@@ -1,6 +1,6 @@
 //! Counts the register accesses that the calls of a gate make, over a bank that counts each read and each write:
 //! through the three-bit door, then through the four-valued one.
-//! What it must print comes from a simulation of its own (tools/access_counts.py).
+//! What it must print comes from a program of its own (tools/access_counts.py).
 #![tactic(auto)]
 
 ghost use Rattle.std.specs.Prelude.{◌≡◌, ◌≤◌, replicate, IfOk};

@@ -1,5 +1,5 @@
-//! What every door is to a gate: the phases and records of its arms, the one access of a step, the calls, and why they are refused.
-//! The model of a whole gate over any door's table, the rules that a door shows, and the law are in specs/.
+//! The model of a gate over any door: the phases and records of its arms, the one access of a step, the calls, and why they are refused.
+//! The state of a whole gate over any door's table, the rules that a door shows, and the law are in specs/.
 #![tactic(auto)]
 
 // The phases of an arm.
