@@ -2,7 +2,7 @@
 use Rattle.std.proofs.Common.{◌≡◌, ℕ, ◌+◌, ◌≤◌, if◌then◌else◌, is_some, List, [], ◌∷◌, ◌++◌, length, Ok, Err, Result, sym, refl, ap, ◌∙◌, subst}
 use Rattle.bank.specs.Lent.{Lent}
 use Rattle.door.specs.Accesses.{ShowsAccesses}
-use Rattle.door.specs.Calls.{refusal_of, after, unless}
+use Rattle.door.specs.Calls.{refusal_of, after, unless, left_at_once}
 use Rattle.door.specs.Making.{arms_for}
 use Rattle.door.specs.States.{State}
 use Rattle.door.specs.Table.{Table}
@@ -12,7 +12,7 @@ use Rattle.schedule.specs.Reading.{Contents}
 use Rattle.schedule.specs.declared.fault.PlayFault.{PlayFault}
 use Rattle.schedule.specs.declared.order_number.Order.{Order}
 use Rattle.schedule.specs.declared.order_number.Order.TheVariants.{Begin, Step, Leave}
-use Rattle.play.specs.Playing.{order_refusal, left_at_once, obeyed, obeyed_all, refusals, each_refusal, start, end, play_text, play_answer, play_memory, playable, GivesAsMany, IsSamePlay, SameElsewhere}
+use Rattle.play.specs.Playing.{order_refusal, obeyed, obeyed_all, refusals, each_refusal, start, end, play_text, play_answer, play_memory, playable, GivesAsMany, IsSamePlay, SameElsewhere}
 use Rattle.play.specs.Reports.{arm_line, first_line, report_text}
 use Rattle.play.specs.Text.{lines, overwritten}
 

@@ -1,4 +1,3 @@
 pub mod Fits
 pub mod Lent
-pub mod Left
 pub mod Elsewhere
