@@ -9,8 +9,8 @@ use crate::comparing::phase_at;
 use crate::gate::{Gate, Tally, View};
 use crate::rows::largest;
 use bank::Bank;
-use door::{Phase, Refusal};
 use door::access::{GROUP, value_at};
+use door::{Phase, Refusal};
 use doors::Door;
 
 impl<B: Bank, D: Door> Gate<B, D> {
