@@ -11,7 +11,7 @@ from plant_files import ARM_LIMIT, FourValuedGate, Gate
 
 HERE = os.path.join(os.path.dirname(os.path.abspath(__file__)), "..", "crates", "accesses")
 
-KINDS = ("begin", "step", "admit", "confirm", "leave", "look", "tally", "most_passed", "way", "bit", "same")
+KINDS = ("begin", "step", "admit", "confirm", "leave", "let_go", "phase", "look", "tally", "most_passed", "way", "bit", "same")
 
 TURNS = 20000
 MORE_TURNS = 60000
@@ -107,6 +107,15 @@ class Watched:
             self.out.remove(arm)
             self.gate.leave(arm)
 
+    def let_go(self, arm):
+        accepted = self.is_arm(arm) and self.gate.phase(arm) == "F" and arm not in self.out
+        self.book.add("let_go", accepted)
+        if accepted:
+            self.gate.leave(arm)
+
+    def phase(self, arm):
+        self.book.add("phase", self.is_arm(arm))
+
     def look(self, arm):
         self.book.add("look", self.is_arm(arm))
 
@@ -136,6 +145,8 @@ def turn(watched, arm):
     phase = watched.gate.phase(arm)
     if phase == "I":
         watched.begin(arm)
+    elif phase == "F" and arm % 2 == 0:
+        watched.let_go(arm)
     elif phase == "F":
         watched.admit(arm)
         watched.admit(arm)
@@ -157,6 +168,8 @@ def ask_for(watched, stranger):
     watched.begin(stranger)
     watched.step(stranger)
     watched.admit(stranger)
+    watched.let_go(stranger)
+    watched.phase(stranger)
     watched.look(stranger)
     watched.tally(1, stranger)
     watched.tally(stranger, 1)
@@ -199,7 +212,7 @@ def refused(door, n, turns):
         arm = arm_of(t, n)
         ask_for(watched, 0)
         ask_for(watched, n + 1)
-        watched.look(arm)
+        watched.phase(arm)
         ask_wrongly(watched, arm)
         turn_of_other(watched, other)
         turn(watched, arm)

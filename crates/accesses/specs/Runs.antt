@@ -1,10 +1,10 @@
 -- What the turns of a run do to a gate.
 use Rattle.std.specs.Prelude.{ℕ, zero, suc, ◌+◌, ◌*◌, ◌/◌, ◌%◌, ◌^◌}
 use Rattle.door.specs.Limits.{arm_limit}
-use Rattle.door.specs.Calls.{after, refusal_of, unless}
+use Rattle.door.specs.Calls.{after, left_at_once}
 use Rattle.door.specs.States.{State, phase_at}
 use Rattle.door.specs.Table.{Table}
-use Rattle.door.specs.declared.call.Call.TheVariants.{Begin as begin, Step as step, Admit as admit, Leave as leave}
+use Rattle.door.specs.declared.call.Call.TheVariants.{Begin as begin, Step as step}
 use Rattle.door.specs.declared.phase.Phase.{Phase}
 use Rattle.door.specs.declared.phase.Phase.TheVariants as P
 
@@ -19,7 +19,7 @@ arm_of turn n = ((turn * 0x9e3779b97f4a7c15) % 2 ^ 64 / 2 ^ 33) % n + 1
 module _ {At : Type 0} (door : Table At) where
   -- an arm that may be admitted is, and leaves
   abbrev pub visited : State At → ℕ → State At
-  visited s i = unless (refusal_of door s (admit i)) (after door (after door s (admit i)) (leave s.number i)) s
+  visited s i = left_at_once door s i
 
   -- what the phase of an arm asks for is done
   abbrev pub turned_in : Phase → State At → ℕ → State At

@@ -117,6 +117,8 @@ fn show(rt: &HostRuntime, book: Book) -> anyhow::Result<()> {
         admit,
         confirm,
         leave,
+        let_go,
+        phase,
         look,
         tally,
         most_passed,
@@ -129,6 +131,8 @@ fn show(rt: &HostRuntime, book: Book) -> anyhow::Result<()> {
     println!(rt; "admit: {admit}")?;
     println!(rt; "confirm: {confirm}")?;
     println!(rt; "leave: {leave}")?;
+    println!(rt; "let_go: {let_go}")?;
+    println!(rt; "phase: {phase}")?;
     println!(rt; "look: {look}")?;
     println!(rt; "tally: {tally}")?;
     println!(rt; "most_passed: {most_passed}")?;

@@ -110,7 +110,7 @@ impl<D: Door> WatchedDispatcher<D> {
     {
         let was_inside = self.was_inside(arm);
         self.book.add(arm, was_inside, count);
-        let inside = matches!(self.dispatcher.gate().look(arm), Ok(view) if view.phase == Phase::F);
+        let inside = matches!(self.dispatcher.gate().phase(arm), Ok(Phase::F));
         if let Some(place) = self.inside.get_mut(arm) {
             *place = inside;
         }

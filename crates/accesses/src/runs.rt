@@ -50,6 +50,10 @@ fn turn<D: Door>(gate: &mut Watched<D>, arm: usize)
         }
         // Whoever has the pass lets the arm go.
         Phase::F if view.out => {}
+        // Every other arm leaves at once.
+        Phase::F if arm % 2 == 0 => {
+            let _ = gate.let_go(arm);
+        }
         Phase::F => visit(gate, arm),
     }
 }
@@ -86,6 +90,8 @@ fn ask_for<D: Door>(gate: &mut Watched<D>, stranger: usize)
     let _ = gate.begin(stranger).unwrap_err();
     let _ = gate.step(stranger).unwrap_err();
     let _ = gate.admit(stranger).unwrap_err();
+    let _ = gate.let_go(stranger).unwrap_err();
+    let _ = gate.phase(stranger).unwrap_err();
     let _ = gate.look(stranger).unwrap_err();
     let _ = gate.tally(1, stranger).unwrap_err();
     let _ = gate.tally(stranger, 1).unwrap_err();
@@ -172,8 +178,8 @@ fn turn_after_refusals<D: Door>(
     let n = gate.arm_count();
     ask_for(gate, 0);
     ask_for(gate, n + 1);
-    let view = gate.look(arm).unwrap();
-    ask_wrongly(gate, arm, view.phase);
+    let phase = gate.phase(arm).unwrap();
+    ask_wrongly(gate, arm, phase);
     turn_of_other(gate, other);
     turn(gate, arm);
 }

@@ -1,11 +1,11 @@
 ghost use Rattle.std.specs.Prelude.{◌≡◌, ℕ, IsTrue, IfOk};
 ghost use Rattle.gate.specs.Gates.{IsGate};
 ghost use Rattle.bank.specs.Lent.{unlogged};
-ghost use Rattle.door.specs.Calls.{after, knows, way_answer, answered, refusal_of};
+ghost use Rattle.door.specs.Calls.{after, knows, left_at_once, way_answer, answered, refusal_of};
 ghost use Rattle.door.specs.States.{made, bit_of};
 ghost use Rattle.door.specs.declared.call.Call.TheVariants.{Begin, Step, Admit, Leave};
 ghost use Rattle.door.specs.declared.phase.Phase.TheVariants as P;
-ghost use Rattle.gate.specs.Answers.{step_answer, admit_answer, leave_answer, look_answer, tally_answer, most_answer};
+ghost use Rattle.gate.specs.Answers.{step_answer, admit_answer, leave_answer, let_go_answer, phase_answer, look_answer, tally_answer, most_answer};
 
 use crate::cost::Costs;
 use crate::counting_bank::{Accesses, Count, CountingBank};
@@ -23,6 +23,8 @@ pub struct Book {
     pub admit: Costs,
     pub confirm: Costs,
     pub leave: Costs,
+    pub let_go: Costs,
+    pub phase: Costs,
     pub look: Costs,
     pub tally: Costs,
     pub most_passed: Costs,
@@ -41,6 +43,8 @@ impl Book {
             admit: none,
             confirm: none,
             leave: none,
+            let_go: none,
+            phase: none,
             look: none,
             tally: none,
             most_passed: none,
@@ -152,6 +156,28 @@ impl<D: Door> Watched<D> {
         let answer = self.gate.leave(pass);
         let count = self.since(before);
         self.book.leave.add(answer.is_ok(), count);
+        answer
+    }
+
+    pub fn let_go(&mut self, arm: usize) -> Result<Phase, Refusal>
+        ensures answer { result ≡ let_go_answer D.table self.old.gate arm }
+        ensures after { self.new.gate ≡ left_at_once D.table self.old.gate arm }
+    {
+        let before = self.accesses.count();
+        let answer = self.gate.let_go(arm);
+        let count = self.since(before);
+        self.book.let_go.add(answer.is_ok(), count);
+        answer
+    }
+
+    pub fn phase(&mut self, arm: usize) -> Result<Phase, Refusal>
+        ensures answer { result ≡ phase_answer D.table self.old.gate arm }
+        ensures after { self.new.gate ≡ self.old.gate }
+    {
+        let before = self.accesses.count();
+        let answer = self.gate.phase(arm);
+        let count = self.since(before);
+        self.book.phase.add(answer.is_ok(), count);
         answer
     }
 

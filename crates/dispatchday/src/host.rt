@@ -40,7 +40,7 @@ pub fn day<B: Bank, D: Door>(
 fn phase_seen<B: Bank, D: Door>(dispatcher: &Dispatcher<B, D>, arm: usize) -> Option<Phase>
     ensures { result ≡ phase_seen D.table dispatcher.now.gate arm }
 {
-    dispatcher.gate().look(arm).ok().map(|view| view.phase)
+    dispatcher.gate().phase(arm).ok()
 }
 
 // Whether an arm that is seen in this phase is inside: its reading is then due.

@@ -1,23 +1,19 @@
 -- The calls of a move, put together.
-use Rattle.std.proofs.Common.{◌≡◌, ℕ, true, cond, List, [], ◌∷◌, ◌++◌, append-nil, Some, None, Ok, Result, sym, ap, ◌∙◌, subst, arith}
-use Rattle.door.specs.Calls.{after, run}
+use Rattle.std.proofs.Common.{◌≡◌, ℕ, true, cond, List, [], ◌∷◌, ◌++◌, append-nil, Some, None, sym, ap, ◌∙◌, subst, arith}
+use Rattle.door.specs.Calls.{refusal_of, unless, left_at_once, run}
 use Rattle.door.specs.States.{State}
 use Rattle.door.specs.Table.{Table}
 use Rattle.door.specs.declared.call.Call.TheVariants.{Step, Admit, Leave}
-use Rattle.door.specs.declared.refusal.Refusal.{Refusal}
 use Rattle.door.proofs.Origins.{run_append}
-use Rattle.gate.specs.Answers.{admit_answer}
-use Rattle.gate.specs.declared.pass.Pass.{Pass}
-use Rattle.dispatcher.specs.Dispatchers.{Dispatch}
+use Rattle.dispatcher.specs.Dispatchers.{Dispatch, NoPassOut}
 use Rattle.dispatcher.specs.Moves.{opening, is_inside, first_busy, serving, serving_any, opened, in_line, last_after, moved}
 
 module _ {At : Type 0} (door : Table At) where
   -- an arm inside is served
-  pub served_inside : (s t u : State At) (i : ℕ) (pass : Pass) (answer : Result Pass Refusal) → is_inside door s i ≡ true
-      → answer ≡ admit_answer door s i → t ≡ after door s (Admit i) → answer ≡ Ok pass → u ≡ after door t (Leave pass.gate pass.arm) → u ≡ run door s (serving door s i)
-  served_inside s t u i pass answer inside told t_is ok u_is =
-      let own : (pass.gate ≡ s.number) × (pass.arm ≡ i) = grind arith in
-      u_is ∙ ap (λ v. after door v (Leave pass.gate pass.arm)) t_is ∙ ap (λ n. after door (after door s (Admit i)) (Leave n pass.arm)) own.0 ∙ ap (λ k. after door (after door s (Admit i)) (Leave s.number k)) own.1
+  pub served_inside : (s t : State At) (i : ℕ) → NoPassOut door s → is_inside door s i ≡ true → t ≡ left_at_once door s i → t ≡ run door s (serving door s i)
+  served_inside s t i spent inside t_is =
+      let may : refusal_of door s (Admit i) ≡ None = let x = spent i in grind arith in
+      t_is ∙ ap (λ r. unless r (run door s (Admit i ∷ Leave s.number i ∷ [])) s) may
       ∙ ap (λ b. run door s (cond b (Admit i ∷ Leave s.number i ∷ []) (Step i ∷ []))) (sym inside)
 
   -- a move in which all arms are idle, and one that serves an arm

@@ -37,14 +37,14 @@ fn begin_asked<B: Bank, D: Door>(gate: &mut Gate<B, D>, asked: &mut Ring<usize>)
 fn is_busy<B: Bank, D: Door>(gate: &Gate<B, D>, arm: usize) -> bool
     ensures { result ≡ is_busy D.table gate.now arm }
 {
-    matches!(gate.look(arm), Ok(view) if view.phase != Phase::I)
+    matches!(gate.phase(arm), Ok(phase) if phase != Phase::I)
 }
 
 // Whether an arm of the gate is inside.
 fn is_inside<B: Bank, D: Door>(gate: &Gate<B, D>, arm: usize) -> bool
     ensures { result ≡ is_inside D.table gate.now arm }
 {
-    matches!(gate.look(arm), Ok(view) if view.phase == Phase::F)
+    matches!(gate.phase(arm), Ok(Phase::F))
 }
 
 // The first arm not idle in cyclic order after the last one.
@@ -61,15 +61,14 @@ fn first_busy<B: Bank, D: Door>(gate: &Gate<B, D>, last: usize) -> Option<usize>
     )
 }
 
-// Serves an arm: one inside is admitted and left, any other is stepped.
+// Serves an arm: one inside is let go, that is admitted and left; any other is stepped.
 fn serve<B: Bank, D: Door>(gate: &mut Gate<B, D>, arm: usize)
     requires busy { IsTrue (is_busy D.table gate.old arm) }
     requires spent { NoPassOut D.table gate.old }
     ensures gate { gate.new ≡ run D.table gate.old (serving D.table gate.old arm) }
 {
     if is_inside(gate, arm) {
-        let pass = gate.admit(arm).unwrap();
-        let _ = gate.leave(pass).unwrap();
+        let _ = gate.let_go(arm).unwrap();
     } else {
         let _ = gate.step(arm).unwrap();
     }

@@ -111,6 +111,10 @@ module _ {At : Type 0} (door : Table At) where
   run s [] = s
   run s (c ∷ cs) = run (after s c) cs
 
+  -- an arm that is admitted and leaves
+  abbrev pub left_at_once : State At → ℕ → State At
+  left_at_once s i = unless (refusal_of s (admit i)) (after (after s (admit i)) (leave s.number i)) s
+
   -- what way tells of a waiting arm
   abbrev pub has_way : State At → ℕ → Bool
   has_way s i = free_for s (side_of (arm_at door s i).side)

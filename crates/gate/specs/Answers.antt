@@ -2,7 +2,7 @@
 use Rattle.std.specs.Prelude.{ℕ, zero, suc, ◌-◌, max, false, List, Some, None, Ok, Err, Option, Result, slice_index, slice_index_or}
 use Rattle.door.specs.Table.{Table}
 use Rattle.door.specs.Calls.{refusal_of, answered, arm_after}
-use Rattle.door.specs.States.{State, arm_at}
+use Rattle.door.specs.States.{State, arm_at, phase_at}
 use Rattle.door.specs.declared.arm.Arm.{Arm}
 use Rattle.door.specs.declared.call.Call.{Call}
 use Rattle.door.specs.declared.call.Call.TheVariants.{Step as step, Admit as admit, Leave as leave, Look as look, Tally as tally}
@@ -38,6 +38,12 @@ module _ {At : Type 0} (door : Table At) where
 
   abbrev pub leave_answer : State At → Pass → Result Phase HandedBack
   leave_answer s p = handed_back p (refusal_of door s (leave p.gate p.arm))
+
+  abbrev pub let_go_answer : State At → ℕ → Result Phase Refusal
+  let_go_answer s i = answered (refusal_of door s (admit i)) P.X
+
+  abbrev pub phase_answer : State At → ℕ → Result Phase Refusal
+  phase_answer s i = answered (refusal_of door s (look i)) (phase_at door s i)
 
   -- what look tells of a record, and of the turns
   abbrev pub view_of : Arm At → ℕ → View

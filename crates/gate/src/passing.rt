@@ -1,8 +1,8 @@
 ghost use Rattle.std.specs.Prelude.{◌≡◌, true, false, IsTrue, IfOk};
 ghost use Rattle.door.specs.declared.call.Call.TheVariants.{Admit, Leave};
-ghost use Rattle.gate.specs.Answers.{admit_answer, leave_answer};
+ghost use Rattle.gate.specs.Answers.{admit_answer, leave_answer, let_go_answer};
 ghost use Rattle.gate.specs.Passes.{passes_out, with_given, without, spent_if};
-ghost use Rattle.door.specs.Calls.{after, knows};
+ghost use Rattle.door.specs.Calls.{after, knows, left_at_once};
 
 use crate::gate::Gate;
 use crate::pass::{HandedBack, Pass};
@@ -62,5 +62,15 @@ impl<B: Bank, D: Door> Gate<B, D> {
         record.out = false;
         pass.spent = true;
         Ok(Phase::X)
+    }
+
+    /// Admits an arm and lets it leave at once. Refuses as `admit` does, with 1, 6 or 7: an arm whose pass is out leaves with that alone.
+    pub fn let_go(&mut self, arm: usize) -> Result<Phase, Refusal>
+        ensures answer { result ≡ let_go_answer D.table self.old arm }
+        ensures after { self.new ≡ left_at_once D.table self.old arm }
+        ensures passes { passes_out D.table self.new ≡ passes_out D.table self.old }
+    {
+        let pass = self.admit(arm)?;
+        Ok(self.leave(pass).unwrap())
     }
 }

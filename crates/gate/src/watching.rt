@@ -1,15 +1,16 @@
 ghost use Rattle.std.specs.Prelude.{◌≡◌, IfOk};
-ghost use Rattle.gate.specs.Answers.{look_answer, tally_answer, most_answer};
+ghost use Rattle.gate.specs.Answers.{phase_answer, look_answer, tally_answer, most_answer};
 ghost use Rattle.door.specs.Indexes.{IndexFits};
 ghost use Rattle.door.specs.States.{bit_of};
 ghost use Rattle.door.specs.Turns.{TurnsLaw};
 ghost use Rattle.gate.specs.Gates.{IsGate};
 
+use crate::comparing::phase_at;
 use crate::gate::{Gate, Tally, View};
 use crate::rows::largest;
 use bank::Bank;
-use door::Refusal;
 use door::access::{GROUP, value_at};
+use door::{Phase, Refusal};
 use doors::Door;
 
 impl<B: Bank, D: Door> Gate<B, D> {
@@ -29,6 +30,16 @@ impl<B: Bank, D: Door> Gate<B, D> {
             return 0;
         }
         value_at(&self.bank, GROUP)
+    }
+
+    /// The phase of an arm. Refuses with 1.
+    pub fn phase(&self, arm: usize) -> Result<Phase, Refusal>
+        ensures { result ≡ phase_answer D.table self.now arm }
+    {
+        if !self.is_arm(arm) {
+            return Err(Refusal::NoArm);
+        }
+        Ok(phase_at(&self.arms, arm - 1))
     }
 
     /// Phase, side, index, visits and mark of an arm, and how often the bit turned. Refuses with 1.

@@ -1,9 +1,9 @@
 -- What a gate makes of the orders of a schedule.
 use Rattle.std.specs.Prelude.{ℕ, ◌+◌, List, [], ◌∷◌, Option, is_some, if◌then◌else◌}
-use Rattle.door.specs.Calls.{refusal_of, after, unless}
+use Rattle.door.specs.Calls.{refusal_of, after, left_at_once}
 use Rattle.door.specs.Table.{Table}
 use Rattle.door.specs.States.{State}
-use Rattle.door.specs.declared.call.Call.TheVariants.{Begin as begin, Step as step, Admit as admit, Leave as leave}
+use Rattle.door.specs.declared.call.Call.TheVariants.{Begin as begin, Step as step, Admit as admit}
 use Rattle.door.specs.declared.refusal.Refusal.{Refusal}
 use Rattle.schedule.specs.declared.order_number.Order.{Order}
 use Rattle.schedule.specs.declared.order_number.Order.TheVariants.{Begin, Step, Leave}
@@ -15,15 +15,11 @@ module _ {At : Type 0} (door : Table At) where
   order_refusal s (Step i) = refusal_of door s (step i)
   order_refusal s (Leave i) = refusal_of door s (admit i)
 
-  -- an arm that is admitted and leaves
-  abbrev pub left_at_once : State At → ℕ → State At
-  left_at_once s i = unless (refusal_of door s (admit i)) (after door (after door s (admit i)) (leave s.number i)) s
-
   -- the gate after an order; a leave order admits and leaves
   abbrev pub obeyed : State At → Order → State At
   obeyed s (Begin i) = after door s (begin i)
   obeyed s (Step i) = after door s (step i)
-  obeyed s (Leave i) = left_at_once s i
+  obeyed s (Leave i) = left_at_once door s i
 
   -- the gate after all orders, and how many it refused
   abbrev pub obeyed_all : State At → List Order → State At

@@ -39,10 +39,7 @@ fn step_on<B: Bank, D: Door>(gate: &mut Gate<B, D>, arm: usize) -> Phase
     for _ in 0..STEPS {
         let _ = gate.step(arm);
     }
-    match gate.look(arm) {
-        Ok(view) => view.phase,
-        Err(_) => Phase::I,
-    }
+    gate.phase(arm).unwrap_or(Phase::I)
 }
 
 // Holds the passes of arms 1 to 3 while it steps others; answers how far those came.
@@ -67,8 +64,7 @@ fn main(rt: HostRuntime) -> anyhow::Result<()> {
     println!(rt; "arm 4 beside three passes: {beside:?}")?;
     println!(rt; "arm 2 without its pass: {gone:?}, and asked again: {again:?}")?;
     for arm in 1..7 {
-        if let Ok(view) = gate.look(arm) {
-            let phase = view.phase;
+        if let Ok(phase) = gate.phase(arm) {
             println!(rt; "arm {arm}: {phase:?}")?;
         }
     }

@@ -94,7 +94,7 @@ fn is_busy<B: Bank, D: Door>(gate: &Gate<B, D>, k: usize) -> bool
     requires { k < plant_arms }
     ensures { result ≡ is_busy D.table gate.now k }
 {
-    matches!(gate.look(k + 1), Ok(view) if view.phase != Phase::I)
+    matches!(gate.phase(k + 1), Ok(phase) if phase != Phase::I)
 }
 
 // The arms that are not idle.

@@ -1,5 +1,5 @@
 -- A ring: items in the order in which they were put in.
-use Rattle.std.specs.Prelude.{ℕ, if◌then◌else◌, List, [], ◌∷◌, ◌++◌, length}
+use Rattle.std.specs.Prelude.{ℕ, Bool, if◌then◌else◌, not, List, [], ◌∷◌, ◌++◌, length}
 use Rattle.ring.specs.Spans.{laid, has_room, put_span, put_slots, taken_span}
 use Rattle.ring.specs.declared.span.Span.{Span}
 
@@ -17,6 +17,10 @@ module _ {X : Type 0} where
   -- an empty ring over memory that holds this
   abbrev pub emptied : ℕ → List X → Held X
   emptied memory slots = record { memory = memory; slots = slots; span = record { head = 0; count = 0 } }
+
+  -- whether no other item fits
+  abbrev pub is_full : Held X → Bool
+  is_full r = not (has_room r.span r.slots)
 
   -- the items once one more is put behind them, where it fits
   abbrev pub with_item : X → Held X → List X

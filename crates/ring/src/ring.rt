@@ -1,5 +1,5 @@
 ghost use Rattle.std.specs.Prelude.{◌≡◌, ◌==◌, [], drop, length, slice_get};
-ghost use Rattle.ring.specs.Rings.{items, emptied, put_in, taken, with_item};
+ghost use Rattle.ring.specs.Rings.{items, emptied, is_full, put_in, taken, with_item};
 ghost use Rattle.ring.specs.Refusals.{put_answer};
 
 use crate::refusal::Refusal;
@@ -52,6 +52,14 @@ impl<'a, T: Copy> Ring<'a, T> {
         ensures { result ≡ (length (items self.now) == 0) }
     {
         self.len() == 0
+    }
+
+    /// Whether `put` would refuse: the ring has as many items as its memory has places.
+    #[tactic(auto, using(crate::proofs::Calls::count_is))]
+    pub fn is_full(&self) -> bool
+        ensures { result ≡ is_full self.now }
+    {
+        self.len() == self.memory.len()
     }
 
     /// The item that `take` would take out; it stays. None where there is none.

@@ -5,6 +5,6 @@ use Rattle.dispatcher.proofs.moves.serve.Goals as goal
 pub returns-then-is_inside : goal.returns-then-is_inside
 returns-then-is_inside g c =
     record {
-      gate = served_inside g.D.Door.table c.args.gate.now c.admit.new.self c.leave.new.self c.args.arm c.unwrap-pass.result c.admit.result
-          (sym c.is_inside.ensures ∙ c.if-is_inside.true) c.admit.ensures.answer c.admit.ensures.after c.unwrap-pass.ensures c.leave.ensures.after;
+      gate = served_inside g.D.Door.table c.args.gate.now c.let_go.new.self c.args.arm c.requires.spent
+          (sym c.is_inside.ensures ∙ c.if-is_inside.true) c.let_go.ensures.after;
     }
