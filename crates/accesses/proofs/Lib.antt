@@ -1,3 +1,3 @@
 pub mod Turns
 pub mod Visits
-pub mod Led
+pub mod OneMoveMore

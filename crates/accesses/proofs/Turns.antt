@@ -1,15 +1,15 @@
 -- What no call alters, a turn does not alter either.
 use Rattle.std.proofs.Common.{◌≡◌, ℕ, ◌+◌, add-one, refl, ◌∙◌, arith}
-use Rattle.door.specs.Calls.{after, refusal_of}
-use Rattle.door.specs.States.{State, phase_at}
-use Rattle.door.specs.Table.{Table}
-use Rattle.door.specs.declared.call.Call.{Call}
-use Rattle.door.specs.declared.call.Call.TheVariants.{Begin, Step, Admit, Leave}
-use Rattle.door.specs.declared.phase.Phase.{Phase}
-use Rattle.door.specs.declared.phase.Phase.TheVariants as P
-use Rattle.door.proofs.Accepted.{unless_both}
-use Rattle.door.proofs.Unaltered.{after_n}
-use Rattle.accesses.specs.Runs.{arm_of, turned_in, turned, run_of}
+use Rattle.gate_model.specs.Calls.{after, refusal_of}
+use Rattle.gate_model.specs.States.{State, phase_at}
+use Rattle.gate_model.specs.Table.{Table}
+use Rattle.gate_model.specs.declared.call.Call.{Call}
+use Rattle.gate_model.specs.declared.call.Call.TheVariants.{Begin, Step, Admit, Leave}
+use Rattle.gate_model.specs.declared.phase.Phase.{Phase}
+use Rattle.gate_model.specs.declared.phase.Phase.TheVariants as P
+use Rattle.gate_model.proofs.Accepted.{unless_both}
+use Rattle.gate_model.proofs.Unaltered.{after_n}
+use Rattle.accesses.specs.Runs.{arm_of_turn, turned_in, turned, run_of}
 
 module _ {At : Type 0} (door : Table At) where
   in_stays : (f : State At → ℕ) → ((s : State At) (c : Call) → f (after door s c) ≡ f s) → (p : Phase) (s : State At) (i : ℕ) → f (turned_in door p s i) ≡ f s
@@ -29,5 +29,5 @@ module _ {At : Type 0} (door : Table At) where
   turned_number s i = in_stays (λ s. s.number) after_number (phase_at door s i) s i
 
   -- one turn more
-  pub run_on : (t n i : ℕ) (s now next : State At) → now ≡ run_of door t s → n ≡ s.n → i ≡ arm_of t n → next ≡ turned door now i → next ≡ run_of door (t + 1) s
+  pub run_on : (t n i : ℕ) (s now next : State At) → now ≡ run_of door t s → n ≡ s.n → i ≡ arm_of_turn t n → next ≡ turned door now i → next ≡ run_of door (t + 1) s
   run_on t n i s now next before arms arm turn = rw add-one (cc)

@@ -1,14 +1,14 @@
 -- A pass that was just given is taken back, and one that is refused alters nothing.
 use Rattle.std.proofs.Common.{◌≡◌, ℕ, Bool, not, T, ◌≢◌, Ok, Err, None, Option, Result, IsTrue, IfOk, IsOk, IsErr, sym, ap, ◌∙◌, subst, arith}
 use Rattle.std.proofs.lemmas.Bool.Decides.{nat_tests}
-use Rattle.door.specs.Calls.{refusal_of, after, unless, answered, knows, way_answer}
-use Rattle.door.specs.History.{is_in}
-use Rattle.door.specs.States.{State}
-use Rattle.door.specs.Table.{Table}
-use Rattle.door.specs.declared.call.Call.TheVariants.{Begin, Admit, Leave}
-use Rattle.door.specs.declared.phase.Phase.{Phase}
-use Rattle.door.specs.declared.phase.Phase.TheVariants as P
-use Rattle.door.specs.declared.refusal.Refusal.{Refusal}
+use Rattle.gate_model.specs.Calls.{refusal_of, after, unless, answered, knows, way_answer}
+use Rattle.gate_model.specs.History.{is_in}
+use Rattle.gate_model.specs.States.{State}
+use Rattle.gate_model.specs.Table.{Table}
+use Rattle.gate_model.specs.declared.call.Call.TheVariants.{Begin, Admit, Leave}
+use Rattle.gate_model.specs.declared.phase.Phase.{Phase}
+use Rattle.gate_model.specs.declared.phase.Phase.TheVariants as P
+use Rattle.gate_model.specs.declared.refusal.Refusal.{Refusal}
 use Rattle.gate.specs.Answers.{handed_back, admit_answer, leave_answer}
 use Rattle.gate.specs.declared.pass.HandedBack.{HandedBack}
 use Rattle.gate.specs.declared.pass.Pass.{Pass}
@@ -23,8 +23,8 @@ handed_stays r pass back new old h = (grind arith, grind arith)
 
 module _ {At : Type 0} (door : Table At) where
   -- an arm whose pass is out is not admitted again
-  pub again : (s t : State At) (i : ℕ) (e : Refusal) → admit_answer door s i ≡ Err e → t ≡ after door s (Admit i) → t ≡ s
-  again s t i e h is = is ∙ refused_stays (refusal_of door s (Admit i)) _ e _ s h
+  pub admit_refused : (s t : State At) (i : ℕ) (e : Refusal) → admit_answer door s i ≡ Err e → t ≡ after door s (Admit i) → t ≡ s
+  admit_refused s t i e h is = is ∙ refused_stays (refusal_of door s (Admit i)) _ e _ s h
 
   -- an arm that may not begin
   pub not_begun : (s t : State At) (i : ℕ) (p : Phase) (e : Refusal) → answered (refusal_of door s (Begin i)) p ≡ Err e → t ≡ after door s (Begin i) → t ≡ s
@@ -38,9 +38,9 @@ module _ {At : Type 0} (door : Table At) where
   of_another s pass answer ne is = grind (arith, nat_tests)
 
   -- one that was just given
-  pub taken : (s t : State At) (given : Result Pass Refusal) (pass shown : Pass) (left : Result Phase HandedBack) → IfOk given (λ p. IsTrue (knows door s p.gate p.arm)) → given ≡ Ok pass
+  pub taken_back : (s t : State At) (given : Result Pass Refusal) (pass shown : Pass) (left : Result Phase HandedBack) → IfOk given (λ p. IsTrue (knows door s p.gate p.arm)) → given ≡ Ok pass
       → t ≡ s → shown ≡ pass → left ≡ leave_answer door t shown → IsOk left
-  taken s t given pass shown left h ok stays same is =
+  taken_back s t given pass shown left h ok stays same is =
       let here : IsTrue (knows door s pass.gate pass.arm) = subst (λ r. IfOk r (λ p. IsTrue (knows door s p.gate p.arm))) ok h in
       let known : knows door t shown.gate shown.arm ≡ knows door s pass.gate pass.arm = ap (λ x. knows door x shown.gate shown.arm) stays ∙ ap (λ p. knows door s p.gate p.arm) same in
       grind arith
@@ -83,5 +83,5 @@ module _ {At : Type 0} (door : Table At) where
       → answer ≡ way_answer door u i → IsErr answer
   still_no_way s t u i begun given e f answer h first not_begun is second not_given then last =
       let begins = is ∙ refused_stays (refusal_of door s (Begin i)) P.D e _ s (sym first ∙ not_begun) in
-      let stays = again t u i f (sym second ∙ not_given) then ∙ begins in
+      let stays = admit_refused t u i f (sym second ∙ not_given) then ∙ begins in
       subst IsErr (sym (last ∙ ap (λ x. way_answer door x i) stays)) (no_way s i h)

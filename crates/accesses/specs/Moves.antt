@@ -1,15 +1,15 @@
 -- What moves do to a dispatcher, and how their costs are put down.
 use Rattle.std.specs.Prelude.{◌≡◌, ℕ, Bool, if◌then◌else◌, List, length, ◌==◌}
-use Rattle.door.specs.Table.{Table}
+use Rattle.gate_model.specs.Table.{Table}
 use Rattle.dispatcher.specs.Dispatchers.{Dispatch}
-use Rattle.dispatcher.specs.Law.{moves}
+use Rattle.dispatcher.specs.Law.{after_moves}
 use Rattle.accesses.specs.Costs.{with_call}
 use Rattle.accesses.specs.declared.counting_bank.Count.{Count}
 use Rattle.accesses.specs.declared.moves.MoveBook.{MoveBook}
 
 -- so many moves, whatever each was asked for, lead a dispatcher from d to e
 abbrev pub MovesMade : {At : Type 0} → Table At → ℕ → Dispatch At → Dispatch At → Type 0
-MovesMade door k d e = (rings : List (List ℕ)) × (length rings ≡ k) × (e ≡ moves door d rings)
+MovesMade door k d e = (rings : List (List ℕ)) × (length rings ≡ k) × (e ≡ after_moves door d rings)
 
 -- one move more, of an arm that was inside before it or not; of arm 0 where all were idle
 abbrev pub with_move : ℕ → Bool → Count → MoveBook → MoveBook

@@ -1,20 +1,20 @@
 -- What the turns of a run do to a gate.
 use Rattle.std.specs.Prelude.{ℕ, zero, suc, ◌+◌, ◌*◌, ◌/◌, ◌%◌, ◌^◌}
-use Rattle.door.specs.Limits.{arm_limit}
-use Rattle.door.specs.Calls.{after, left_at_once}
-use Rattle.door.specs.States.{State, phase_at}
-use Rattle.door.specs.Table.{Table}
-use Rattle.door.specs.declared.call.Call.TheVariants.{Begin as begin, Step as step}
-use Rattle.door.specs.declared.phase.Phase.{Phase}
-use Rattle.door.specs.declared.phase.Phase.TheVariants as P
+use Rattle.gate_model.specs.Limits.{arm_limit}
+use Rattle.gate_model.specs.Calls.{after, left_at_once}
+use Rattle.gate_model.specs.States.{State, phase_at}
+use Rattle.gate_model.specs.Table.{Table}
+use Rattle.gate_model.specs.declared.call.Call.TheVariants.{Begin as begin, Step as step}
+use Rattle.gate_model.specs.declared.phase.Phase.{Phase}
+use Rattle.gate_model.specs.declared.phase.Phase.TheVariants as P
 
 -- the registers of the most arms at the three-bit door; the four-valued one needs fewer
 abbrev pub register_count : ℕ
 register_count = 3 * arm_limit + 1
 
 -- the arm of a turn, of n arms; what lies below the highest 31 bits of a product is cut off
-abbrev pub arm_of : ℕ → ℕ → ℕ
-arm_of turn n = ((turn * 0x9e3779b97f4a7c15) % 2 ^ 64 / 2 ^ 33) % n + 1
+abbrev pub arm_of_turn : ℕ → ℕ → ℕ
+arm_of_turn turn n = ((turn * 0x9e3779b97f4a7c15) % 2 ^ 64 / 2 ^ 33) % n + 1
 
 module _ {At : Type 0} (door : Table At) where
   -- an arm that may be admitted is, and leaves
@@ -35,4 +35,4 @@ module _ {At : Type 0} (door : Table At) where
   -- the first turns of a run
   abbrev pub run_of : ℕ → State At → State At
   run_of zero s = s
-  run_of (suc t) s = turned (run_of t s) (arm_of t s.n)
+  run_of (suc t) s = turned (run_of t s) (arm_of_turn t s.n)

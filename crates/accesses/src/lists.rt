@@ -1,14 +1,14 @@
 ghost use Rattle.std.specs.Prelude.{◌≤◌};
-ghost use Rattle.door.specs.Limits.{arm_limit};
+ghost use Rattle.gate_model.specs.Limits.{arm_limit};
 
 use crate::cost::Cost;
 use crate::counting_bank::{Accesses, CountingBank};
-use crate::runs::arm_of;
+use crate::runs::arm_of_turn;
 use crate::{NUMBER, REGISTERS};
 use anyhow::anyhow;
-use door::Call;
 use doors::Door;
 use gate::{Gate, carry_out};
+use gate_model::Call;
 use play::{REPORT_ROOM, play};
 use schedule::{FILE_LIMIT, Order, write};
 use std::alloc::Global;
@@ -22,12 +22,12 @@ const CUT: u8 = 0x80;
 pub(crate) type ListedKind<D> = PhantomData<Gate<CountingBank, D>>;
 
 // Calls of so many turns. At each an arm is asked for all that a list can have, whatever its phase is.
-fn calls_of(alloc: Global, gate: u16, n: usize, turns: u64) -> anyhow::Result<Vec<Call>>
+fn calls_of_turns(alloc: Global, gate: u16, n: usize, turns: u64) -> anyhow::Result<Vec<Call>>
     requires { 1 ≤ n }
 {
     let mut calls = Vec::new(alloc);
     for t in 0..turns {
-        let arm = arm_of(t, n);
+        let arm = arm_of_turn(t, n);
         calls.push(Call::Begin(arm))?;
         calls.push(Call::Step(arm))?;
         calls.push(Call::Way(arm))?;
@@ -47,7 +47,7 @@ fn orders_of(alloc: Global, n: usize, turns: u64) -> anyhow::Result<Vec<Order>>
 {
     let mut orders = Vec::new(alloc);
     for t in 0..turns {
-        let arm = arm_of(t, n) as u16;
+        let arm = arm_of_turn(t, n) as u16;
         orders.push(Order::Begin(arm))?;
         orders.push(Order::Step(arm))?;
         orders.push(Order::Leave(arm))?;
@@ -77,7 +77,7 @@ pub(crate) fn show_carried<D: Door>(
 ) -> anyhow::Result<()>
     requires { 1 ≤ arms }
 {
-    let calls = calls_of(rt.alloc(), NUMBER, arms, turns)?;
+    let calls = calls_of_turns(rt.alloc(), NUMBER, arms, turns)?;
     let accesses = Rc::new(rt.alloc(), Accesses::none())?;
     let bank = counting_bank(rt.alloc(), &accesses)?;
     let mut cost = Cost::none();

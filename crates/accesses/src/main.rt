@@ -5,9 +5,9 @@
 
 ghost use Rattle.std.specs.Prelude.{◌≡◌, ◌≤◌, replicate, IfOk};
 ghost use Rattle.bank.specs.Lent.{unlogged};
-ghost use Rattle.door.specs.Limits.{arm_limit};
-ghost use Rattle.door.specs.Making.{arms_for};
-ghost use Rattle.door.specs.States.{made};
+ghost use Rattle.gate_model.specs.Limits.{arm_limit};
+ghost use Rattle.gate_model.specs.Making.{arms_for};
+ghost use Rattle.gate_model.specs.States.{made};
 ghost use Rattle.accesses.specs.Runs.{register_count};
 
 mod cost;
@@ -23,9 +23,9 @@ use crate::moves::{MoveBook, WatchedDispatcher, make_moves};
 use crate::runs::{lively, refused, watch};
 use crate::watched::{Book, Watched};
 use bank::BitBank;
-use door::arm::ARM_LIMIT;
 use doors::{Door, FourValued, ThreeBits};
 use gate::Gate;
+use gate_model::arm::ARM_LIMIT;
 use std::marker::PhantomData;
 use std::rc::Rc;
 
@@ -78,7 +78,7 @@ fn gate_over<D: Door>(
 }
 
 // A gate of one arm through the three-bit door, whose passes are strange to the gates that are watched.
-#[tactic(auto, unfolding(door::specs::Making::largest))]
+#[tactic(auto, unfolding(gate_model::specs::Making::largest))]
 fn other_gate() -> Gate<BitBank, ThreeBits>
     ensures number { result.number ≡ 2 }
     ensures arms { result.n ≡ 1 }
@@ -245,7 +245,7 @@ fn show_owners<D: Door>(
     show_owned(rt, ARM_LIMIT, moved, listed)
 }
 
-#[tactic(auto, unfolding(door::specs::Making::largest))]
+#[tactic(auto, unfolding(gate_model::specs::Making::largest))]
 fn main(rt: HostRuntime) -> anyhow::Result<()> {
     show_makings::<ThreeBits>(&rt, PhantomData)?;
     show_door::<ThreeBits>(&rt, PhantomData)?;

@@ -1,5 +1,5 @@
 ghost use Rattle.std.specs.Prelude.{◌≡◌, length};
-ghost use Rattle.door.specs.Making.{arms_for};
+ghost use Rattle.gate_model.specs.Making.{arms_for};
 ghost use Rattle.gate.specs.Gates.{IsGate};
 ghost use Rattle.ring.specs.Rings.{items};
 ghost use Rattle.dispatcher.specs.Moves.{served, moved, ring_after};
@@ -7,11 +7,11 @@ ghost use Rattle.accesses.specs.Moves.{MovesMade, with_move};
 
 use crate::cost::Cost;
 use crate::counting_bank::{Accesses, Count, CountingBank};
-use crate::runs::arm_of;
+use crate::runs::arm_of_turn;
 use dispatcher::Dispatcher;
-use door::Phase;
-use door::arm::ARM_LIMIT;
 use doors::Door;
+use gate_model::Phase;
+use gate_model::arm::ARM_LIMIT;
 use ring::Ring;
 use std::rc::Rc;
 
@@ -155,7 +155,7 @@ pub(crate) fn make_moves<D: Door>(dispatcher: &mut WatchedDispatcher<D>, moves: 
     let mut asked = Ring::over(&mut memory);
     for t in 0..moves {
         if t % MOVES_A_BURST < ASKS_A_BURST {
-            let _ = asked.put(arm_of(t, n + 1));
+            let _ = asked.put(arm_of_turn(t, n + 1));
         }
         let _ = dispatcher.make_move(&mut asked);
     }

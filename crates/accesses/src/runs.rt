@@ -1,23 +1,23 @@
 ghost use Rattle.std.specs.Prelude.{◌≡◌, ◌≢◌, ◌≤◌, true, false, None};
-ghost use Rattle.door.specs.Calls.{refusal_of};
-ghost use Rattle.door.specs.States.{is_arm, phase_at};
-ghost use Rattle.door.specs.declared.call.Call.TheVariants.{Admit};
+ghost use Rattle.gate_model.specs.Calls.{refusal_of};
+ghost use Rattle.gate_model.specs.States.{is_arm, phase_at};
+ghost use Rattle.gate_model.specs.declared.call.Call.TheVariants.{Admit};
 ghost use Rattle.three_bits.specs.Positions.{three_bits};
-ghost use Rattle.accesses.specs.Runs.{arm_of, visited, turned, run_of};
+ghost use Rattle.accesses.specs.Runs.{arm_of_turn, visited, turned, run_of};
 
 use crate::watched::Watched;
 use bank::BitBank;
-use door::Phase;
 use doors::{Door, ThreeBits};
 use gate::{Gate, HandedBack};
+use gate_model::Phase;
 
 // Spreads the turns over the arms.
 const SPREAD: u64 = 0x9e37_79b9_7f4a_7c15;
 
 // The arm whose turn it is, of n arms.
-pub(crate) fn arm_of(turn: u64, n: usize) -> usize
+pub(crate) fn arm_of_turn(turn: u64, n: usize) -> usize
     requires { 1 ≤ n }
-    ensures arm { result ≡ arm_of turn n }
+    ensures arm { result ≡ arm_of_turn turn n }
     ensures low { 1 ≤ result }
     ensures high { result ≤ n }
 {
@@ -76,7 +76,7 @@ pub(crate) fn lively<D: Door>(gate: &mut Watched<D>, turns: u64)
 {
     let n = gate.arm_count();
     for t in 0..turns {
-        let arm = arm_of(t, n);
+        let arm = arm_of_turn(t, n);
         turn(gate, arm);
         watch(gate, arm, n);
     }
@@ -197,7 +197,7 @@ pub(crate) fn refused<D: Door>(
 {
     let n = gate.arm_count();
     for t in 0..turns {
-        let arm = arm_of(t, n);
+        let arm = arm_of_turn(t, n);
         turn_after_refusals(gate, other, arm);
     }
 }

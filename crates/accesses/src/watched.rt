@@ -1,17 +1,17 @@
 ghost use Rattle.std.specs.Prelude.{◌≡◌, ℕ, IsTrue, IfOk};
 ghost use Rattle.gate.specs.Gates.{IsGate};
 ghost use Rattle.bank.specs.Lent.{unlogged};
-ghost use Rattle.door.specs.Calls.{after, knows, left_at_once, way_answer, answered, refusal_of};
-ghost use Rattle.door.specs.States.{made, bit_of};
-ghost use Rattle.door.specs.declared.call.Call.TheVariants.{Begin, Step, Admit, Leave};
-ghost use Rattle.door.specs.declared.phase.Phase.TheVariants as P;
+ghost use Rattle.gate_model.specs.Calls.{after, knows, left_at_once, way_answer, answered, refusal_of};
+ghost use Rattle.gate_model.specs.States.{made, bit_of};
+ghost use Rattle.gate_model.specs.declared.call.Call.TheVariants.{Begin, Step, Admit, Leave};
+ghost use Rattle.gate_model.specs.declared.phase.Phase.TheVariants as P;
 ghost use Rattle.gate.specs.Answers.{step_answer, admit_answer, leave_answer, let_go_answer, phase_answer, look_answer, tally_answer, most_answer};
 
 use crate::cost::Costs;
 use crate::counting_bank::{Accesses, Count, CountingBank};
-use door::{Phase, Refusal};
 use doors::Door;
 use gate::{Gate, HandedBack, Pass, Tally, View};
+use gate_model::{Phase, Refusal};
 use std::rc::Rc;
 
 // What the calls of each kind cost.

@@ -1,1 +1,1 @@
-mod Led
+mod OneTurnMore

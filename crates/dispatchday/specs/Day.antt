@@ -1,27 +1,27 @@
 -- What a day does, and what full rings lose.
 use Rattle.std.specs.Prelude.{◌≡◌, ℕ, zero, suc, ◌+◌, ◌-◌, ◌^◌, min, Bool, true, false, if◌then◌else◌, List, length, Some, None, Option}
-use Rattle.door.specs.States.{State, is_arm, phase_at}
-use Rattle.door.specs.Table.{Table}
-use Rattle.door.specs.declared.phase.Phase.{Phase}
-use Rattle.door.specs.declared.phase.Phase.TheVariants as P
+use Rattle.gate_model.specs.States.{State, is_arm, phase_at}
+use Rattle.gate_model.specs.Table.{Table}
+use Rattle.gate_model.specs.declared.phase.Phase.{Phase}
+use Rattle.gate_model.specs.declared.phase.Phase.TheVariants as P
 use Rattle.dispatcher.specs.Dispatchers.{Dispatch}
-use Rattle.dispatcher.specs.Law.{moves}
+use Rattle.dispatcher.specs.Law.{after_moves}
 use Rattle.dispatcher.specs.Moves.{ring_after, served, moved}
 use Rattle.dispatcher.specs.declared.reading.Reading.{Reading}
 use Rattle.ring.specs.Rings.{Held, items, put_in}
 use Rattle.ring.specs.Spans.{has_room}
 use Rattle.dispatchday.specs.Plant.{asked_at, reading_at}
-use Rattle.dispatchday.specs.Waits.{noted}
+use Rattle.dispatchday.specs.WaitTimes.{noted}
 use Rattle.dispatchday.specs.declared.plant.Lost.{Lost}
-use Rattle.dispatchday.specs.declared.waits.Waits.{Waits}
+use Rattle.dispatchday.specs.declared.wait_times.WaitTimes.{WaitTimes}
 
 -- how many moves a day has
 abbrev pub day_moves : ℕ
 day_moves = 700
 
 -- so many moves, whatever each was asked for, lead a dispatcher from d to e
-abbrev pub Moved : {At : Type 0} → Table At → ℕ → Dispatch At → Dispatch At → Type 0
-Moved door k d e = (rings : List (List ℕ)) × (length rings ≡ k) × (e ≡ moves door d rings)
+abbrev pub MovesMade : {At : Type 0} → Table At → ℕ → Dispatch At → Dispatch At → Type 0
+MovesMade door k d e = (rings : List (List ℕ)) × (length rings ≡ k) × (e ≡ after_moves door d rings)
 
 -- the count of lost items once one more is put into a ring: a full one loses it, and the count stops at its highest
 abbrev pub lost_after : {X : Type 0} → Held X → ℕ → ℕ
@@ -41,10 +41,10 @@ pub record Host (At : Type 0) : Type 0 where
   pub asked : Held ℕ
   pub readings : Held Reading
   pub lost : Lost
-  pub waits : Waits
+  pub waits : WaitTimes
 
 module _ {At : Type 0} where
-  abbrev pub host : Dispatch At → Held ℕ → Held Reading → Lost → Waits → Host At
+  abbrev pub host : Dispatch At → Held ℕ → Held Reading → Lost → WaitTimes → Host At
   host dispatcher asked readings lost waits = record { dispatcher = dispatcher; asked = asked; readings = readings; lost = lost; waits = waits }
 
   -- an arm that asks is put into its ring

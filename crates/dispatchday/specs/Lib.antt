@@ -1,3 +1,3 @@
 pub mod Plant
-pub mod Waits
+pub mod WaitTimes
 pub mod Day

@@ -5,13 +5,13 @@
 // What the plant asks for, and what its probes show.
 mod plant;
 // How long arms wait, and how long they can.
-mod waits;
+mod wait_times;
 // The host, with a dispatcher.
 mod host;
 
 use crate::host::day;
 use crate::plant::{ARMS, Lost};
-use crate::waits::{Waits, promised};
+use crate::wait_times::{WaitTimes, promised};
 use bank::ByteBank;
 use dispatcher::{Dispatcher, Reading};
 use doors::{Door, FourValued, ThreeBits};
@@ -36,7 +36,7 @@ const NO_READING: Reading = Reading { arm: 0, tenths: 0 };
 fn show<D: Door>(
     rt: &HostRuntime,
     readings: &mut Ring<Reading>,
-    (lost, waits): (Lost, Waits),
+    (lost, waits): (Lost, WaitTimes),
 ) -> anyhow::Result<()> {
     let count = readings.len();
     let Lost {

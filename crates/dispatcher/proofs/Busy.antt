@@ -1,22 +1,22 @@
 -- An arm that is not idle moves at a call, or is not idle after it either.
 use Rattle.std.proofs.Common.{ℕ, ◌≤◌, Bool, not, ◌&&◌, T, ◌⊎◌, inl, inr, List, [], ◌∷◌, ◌++◌, sym, refl, subst, arith}
 use Rattle.std.proofs.lemmas.Bool.Decides.{nat_tests}
-use Rattle.door.specs.Calls.{after, run}
-use Rattle.door.specs.History.{move_of, moves, Moves, is_in}
-use Rattle.door.specs.Law.{IsReached}
-use Rattle.door.specs.Phases.{same_phase}
-use Rattle.door.specs.States.{State, is_arm}
-use Rattle.door.specs.Table.{Table}
-use Rattle.door.specs.declared.arm.Arm.{Arm}
-use Rattle.door.specs.declared.call.Call.{Call}
-use Rattle.door.specs.declared.phase.Phase.TheVariants as P
-use Rattle.door.proofs.Accepted.{arm_in}
-use Rattle.door.proofs.Bools.{and_T, T_and, clash}
-use Rattle.door.proofs.Bounds.{each_there}
-use Rattle.door.proofs.Effects.{begins, admits, leaves}
-use Rattle.door.proofs.Origins.{reached_after}
-use Rattle.door.proofs.Records.{Became, stays, visited, moved_on, became_by}
-use Rattle.door.proofs.Unaltered.{after_n}
+use Rattle.gate_model.specs.Calls.{after, run}
+use Rattle.gate_model.specs.History.{move_of, moves, Moves, is_in}
+use Rattle.gate_model.specs.Law.{IsReached}
+use Rattle.gate_model.specs.Phases.{same_phase}
+use Rattle.gate_model.specs.States.{State, is_arm}
+use Rattle.gate_model.specs.Table.{Table}
+use Rattle.gate_model.specs.declared.arm.Arm.{Arm}
+use Rattle.gate_model.specs.declared.call.Call.{Call}
+use Rattle.gate_model.specs.declared.phase.Phase.TheVariants as P
+use Rattle.gate_model.proofs.Accepted.{arm_in}
+use Rattle.gate_model.proofs.Bools.{and_T, T_and, clash}
+use Rattle.gate_model.proofs.Bounds.{each_there}
+use Rattle.gate_model.proofs.Effects.{begins, admits, leaves}
+use Rattle.gate_model.proofs.Origins.{reached_after}
+use Rattle.gate_model.proofs.Records.{Became, stays, visited, moved_on, became_by}
+use Rattle.gate_model.proofs.Unaltered.{after_n}
 use Rattle.dispatcher.specs.Moves.{is_busy}
 
 module _ {At : Type 0} (door : Table At) where

@@ -3,28 +3,28 @@ use Rattle.std.proofs.Common.{◌≡◌, ℕ, zero, suc, ◌+◌, ◌*◌, ◌<�
 use Rattle.std.proofs.lemmas.Bool.Decides.{nat_tests}
 use Rattle.std.proofs.lemmas.List.{append_assoc, take-append-drop, length-take-le, length-drop}
 use Rattle.std.proofs.Math.Nat.{mul-suc}
-use Rattle.door.specs.Calls.{after, run}
-use Rattle.door.specs.History.{is_in, Waits, Moves, Rounds}
-use Rattle.door.specs.Law.{ShowsWay, IsReached}
-use Rattle.door.specs.Rules.{Phased, ShowsRules}
-use Rattle.door.specs.States.{State, is_arm}
-use Rattle.door.specs.Table.{Table}
-use Rattle.door.specs.declared.call.Call.{Call}
-use Rattle.door.specs.declared.phase.Phase.TheVariants as P
-use Rattle.door.proofs.Accepted.{arm_in}
-use Rattle.door.proofs.Bools.{by, and_T, T_and}
+use Rattle.gate_model.specs.Calls.{after, run}
+use Rattle.gate_model.specs.History.{is_in, Waits, Moves, Rounds}
+use Rattle.gate_model.specs.Law.{ShowsWay, IsReached}
+use Rattle.gate_model.specs.Rules.{Phased, ShowsRules}
+use Rattle.gate_model.specs.States.{State, is_arm}
+use Rattle.gate_model.specs.Table.{Table}
+use Rattle.gate_model.specs.declared.call.Call.{Call}
+use Rattle.gate_model.specs.declared.phase.Phase.TheVariants as P
+use Rattle.gate_model.proofs.Accepted.{arm_in}
+use Rattle.gate_model.proofs.Bools.{by, and_T, T_and}
 use Rattle.overtaking.proofs.Fairness.{inside_within}
-use Rattle.door.proofs.Always.{run_holds}
-use Rattle.door.proofs.Origins.{run_append, reached_after}
-use Rattle.door.proofs.Unaltered.{run_n}
-use Rattle.door.proofs.Sooner.{some_arm, rounds_few}
+use Rattle.gate_model.proofs.Always.{run_holds}
+use Rattle.gate_model.proofs.Origins.{run_append, reached_after}
+use Rattle.gate_model.proofs.Unaltered.{run_n}
+use Rattle.gate_model.proofs.Sooner.{some_arm, rounds_few}
 use Rattle.dispatcher.specs.Dispatchers.{Dispatch, NoPassOut, IsDispatcher}
-use Rattle.dispatcher.specs.Moves.{opening, is_busy, is_inside, in_turn, serving, serving_any, opened, in_line, calls_of, last_after, moved}
-use Rattle.dispatcher.specs.Law.{moves, calls_of_moves, OnlyCalls, AllServed, InsideWithin, SeenWithin, LawOfMoves}
-use Rattle.dispatcher.proofs.Spent.{opening_spent, serving_spent}
+use Rattle.dispatcher.specs.Moves.{opening, is_busy, is_inside, in_turn, serving, serving_any, opened, in_line, calls_of_move, last_after, moved}
+use Rattle.dispatcher.specs.Law.{after_moves, calls_of_moves, OnlyCalls, AllServed, InsideWithinMoves, SeenWithinMoves, LawOfMoves}
+use Rattle.dispatcher.proofs.NoPassOut.{opening_spent, serving_spent}
 use Rattle.dispatcher.proofs.Busy.{busy_after, moves_left, moves_right}
-use Rattle.dispatcher.proofs.Seen.{seen_inside}
-use Rattle.dispatcher.proofs.Order.{ahead, found_yes, in_line_found, ahead_few}
+use Rattle.dispatcher.proofs.InsideAfterMove.{inside_after_moves}
+use Rattle.dispatcher.proofs.CyclicOrder.{places_ahead, found_yes, in_line_found, ahead_few}
 
 last_within : (r : Option ℕ) (last n : ℕ) → last ≤ n → ((i : ℕ) → r ≡ Some i → i ≤ n) → last_after last r ≤ n
 last_within None last n within found = within
@@ -61,20 +61,20 @@ module _ {At : Type 0} (door : Table At) where
     gate_after = run_append door (opening asked) (serving_any door s next) d.gate
 
     pub n_after : (moved door d asked).gate.n ≡ d.gate.n
-    n_after = run_n door (calls_of door d asked) d.gate
+    n_after = run_n door (calls_of_move door d asked) d.gate
 
     pub ready_after : IsDispatcher door (moved door d asked)
     ready_after = record {
       within = subst (λ n. last_after d.last next ≤ n) (sym n_after)
           (last_within next d.last d.gate.n ready.within (λ i e. let r = busy_in s i (found_yes (is_busy door s) (in_turn s.n d.last) i e) in let z = same_n in omega (arith, r.1)));
       spent = subst (NoPassOut door) (sym gate_after) (serving_spent door s next spent_then);
-      reached = reached_run (calls_of door d asked) d.gate ready.reached;
+      reached = reached_run (calls_of_move door d asked) d.gate ready.reached;
     }
 
     -- an arm that is not idle moves in the next move, or comes nearer
-    pub one_move : (b : ℕ) → T (is_busy door d.gate b)
-        → Moves door b d.gate (calls_of door d asked) ⊎ (T (is_busy door (moved door d asked).gate b) × (ahead d.gate.n (moved door d asked).last b < ahead d.gate.n d.last b))
-    one_move b h = elim (busy_after door (opening asked) d.gate ready.reached b h) [
+    pub served_or_nearer : (b : ℕ) → T (is_busy door d.gate b)
+        → Moves door b d.gate (calls_of_move door d asked) ⊎ (T (is_busy door (moved door d asked).gate b) × (places_ahead d.gate.n (moved door d asked).last b < places_ahead d.gate.n d.last b))
+    served_or_nearer b h = elim (busy_after door (opening asked) d.gate ready.reached b h) [
       | inl m ↦ inl (moves_left door (opening asked) (serving_any door s next) d.gate b m)
       | inr still ↦
           (let r = busy_in s b still in
@@ -85,7 +85,7 @@ module _ {At : Type 0} (door : Table At) where
               | inl m ↦ inl (moves_right door (opening asked) (serving_any door s next) d.gate b m)
               | inr more ↦ inr (
                 subst (λ t. T (is_busy door t b)) (sym gate_after) more,
-                subst (λ n. ahead n (last_after d.last next) b < ahead n d.last b) same_n (subst (λ o. ahead s.n (last_after d.last o) b < ahead s.n d.last b) (sym f.1) nearer),
+                subst (λ n. places_ahead n (last_after d.last next) b < places_ahead n d.last b) same_n (subst (λ o. places_ahead s.n (last_after d.last o) b < places_ahead s.n d.last b) (sym f.1) nearer),
               )
             ]
           ])
@@ -95,13 +95,13 @@ module _ {At : Type 0} (door : Table At) where
   led d asked e same ready = subst (IsDispatcher door) (sym same) (ready_after d asked ready)
 
   -- within as many moves as it is places away
-  served_within : (rings : List (List ℕ)) (d : Dispatch At) (b : ℕ) → IsDispatcher door d → T (is_busy door d.gate b) → ahead d.gate.n d.last b ≤ length rings → Moves door b d.gate (calls_of_moves door d rings)
+  served_within : (rings : List (List ℕ)) (d : Dispatch At) (b : ℕ) → IsDispatcher door d → T (is_busy door d.gate b) → places_ahead d.gate.n d.last b ≤ length rings → Moves door b d.gate (calls_of_moves door d rings)
   served_within [] d b ready h few = let r = busy_in d.gate b h in absurd (omega (arith, few, (ahead_few d.gate.n d.last b ready.within r.1 r.0).0))
-  served_within (asked ∷ more) d b ready h few = elim (one_move d asked ready b h) [
-    | inl m ↦ moves_left door (calls_of door d asked) (calls_of_moves door (moved door d asked) more) d.gate b m
-    | inr x ↦ moves_right door (calls_of door d asked) (calls_of_moves door (moved door d asked) more) d.gate b
+  served_within (asked ∷ more) d b ready h few = elim (served_or_nearer d asked ready b h) [
+    | inl m ↦ moves_left door (calls_of_move door d asked) (calls_of_moves door (moved door d asked) more) d.gate b m
+    | inr x ↦ moves_right door (calls_of_move door d asked) (calls_of_moves door (moved door d asked) more) d.gate b
         (served_within more (moved door d asked) b (ready_after d asked ready) x.0
-        (subst (λ n. ahead n (moved door d asked).last b ≤ length more) (sym (n_after d asked ready)) (omega (arith, x.1, few))))
+        (subst (λ n. places_ahead n (moved door d asked).last b ≤ length more) (sym (n_after d asked ready)) (omega (arith, x.1, few))))
   ]
 
   pub all_served : (d : Dispatch At) → IsDispatcher door d → AllServed door d
@@ -113,18 +113,18 @@ module _ {At : Type 0} (door : Table At) where
   -- moves do nothing to the gate but their calls
   pub only_calls : (d : Dispatch At) → OnlyCalls door d
   only_calls d [] = refl
-  only_calls d (asked ∷ more) = only_calls (moved door d asked) more ∙ sym (run_append door (calls_of door d asked) (calls_of_moves door (moved door d asked) more) d.gate)
+  only_calls d (asked ∷ more) = only_calls (moved door d asked) more ∙ sym (run_append door (calls_of_move door d asked) (calls_of_moves door (moved door d asked) more) d.gate)
 
-  moves_n : (d : Dispatch At) (rings : List (List ℕ)) → (moves door d rings).gate.n ≡ d.gate.n
-  moves_n d rings = ap (λ s. s.n) (only_calls d rings) ∙ run_n door (calls_of_moves door d rings) d.gate
+  after_moves_n : (d : Dispatch At) (rings : List (List ℕ)) → (after_moves door d rings).gate.n ≡ d.gate.n
+  after_moves_n d rings = ap (λ s. s.n) (only_calls d rings) ∙ run_n door (calls_of_moves door d rings) d.gate
 
-  moves_ready : (rings : List (List ℕ)) (d : Dispatch At) → IsDispatcher door d → IsDispatcher door (moves door d rings)
-  moves_ready [] d ready = ready
-  moves_ready (asked ∷ more) d ready = moves_ready more (moved door d asked) (ready_after d asked ready)
+  after_moves_ready : (rings : List (List ℕ)) (d : Dispatch At) → IsDispatcher door d → IsDispatcher door (after_moves door d rings)
+  after_moves_ready [] d ready = ready
+  after_moves_ready (asked ∷ more) d ready = after_moves_ready more (moved door d asked) (ready_after d asked ready)
 
-  calls_append : (xs ys : List (List ℕ)) (d : Dispatch At) → calls_of_moves door d (xs ++ ys) ≡ calls_of_moves door d xs ++ calls_of_moves door (moves door d xs) ys
+  calls_append : (xs ys : List (List ℕ)) (d : Dispatch At) → calls_of_moves door d (xs ++ ys) ≡ calls_of_moves door d xs ++ calls_of_moves door (after_moves door d xs) ys
   calls_append [] ys d = refl
-  calls_append (asked ∷ xs) ys d = ap (λ cs. calls_of door d asked ++ cs) (calls_append xs ys (moved door d asked)) ∙ sym (append_assoc (calls_of door d asked) (calls_of_moves door (moved door d asked) xs) (calls_of_moves door (moves door (moved door d asked) xs) ys))
+  calls_append (asked ∷ xs) ys d = ap (λ cs. calls_of_move door d asked ++ cs) (calls_append xs ys (moved door d asked)) ∙ sym (append_assoc (calls_of_move door d asked) (calls_of_moves door (moved door d asked) xs) (calls_of_moves door (after_moves door (moved door d asked) xs) ys))
 
   none_left : (rings : List (List ℕ)) → length rings ≡ 0 → rings ≡ []
   none_left [] e = refl
@@ -141,11 +141,11 @@ module _ {At : Type 0} (door : Table At) where
       let short : length first ≡ n = length-take-le n rings (omega (arith, many)) in
       let left : length rest ≡ n * k = length-drop n rings ∙ omega (arith, many) in (
         calls_of_moves door d first,
-        calls_of_moves door (moves door d first) rest,
+        calls_of_moves door (after_moves door d first) rest,
         ap (calls_of_moves door d) (sym (take-append-drop n rings)) ∙ calls_append first rest d,
         all_served d ready first short,
-        subst (λ t. Rounds door k t (calls_of_moves door (moves door d first) rest)) (only_calls d first)
-            (in_rounds k (moves door d first) rest (moves_ready first d ready) (left ∙ ap (λ m. m * k) (sym (moves_n d first)))),
+        subst (λ t. Rounds door k t (calls_of_moves door (after_moves door d first) rest)) (only_calls d first)
+            (in_rounds k (after_moves door d first) rest (after_moves_ready first d ready) (left ∙ ap (λ m. m * k) (sym (after_moves_n d first)))),
       )
 
   module _ (phased : Phased door) (rules : ShowsRules door) (way : ShowsWay door) (d : Dispatch At) (ready : IsDispatcher door d) where
@@ -153,11 +153,11 @@ module _ {At : Type 0} (door : Table At) where
     abbrev Enough : ℕ → Type 0
     Enough k = (w : ℕ) → Waits door d.gate w → door.rounds d.gate.n ≤ k
 
-    inside : (k : ℕ) → Enough k → InsideWithin door k d
+    inside : (k : ℕ) → Enough k → InsideWithinMoves door k d
     inside k enough w wait rings e = inside_within door phased rules way d.gate ready.reached w wait k (enough w wait) (calls_of_moves door d rings) (in_rounds k d rings ready e)
 
-    seen : (k : ℕ) → Enough k → SeenWithin door k d
-    seen k enough w wait rings e = seen_inside door w rings d (inside k enough w wait rings e)
+    seen : (k : ℕ) → Enough k → SeenWithinMoves door k d
+    seen k enough w wait rings e = inside_after_moves door w rings d (inside k enough w wait rings e)
 
     fifty : Enough (50 * d.gate.n + 10)
     fifty w wait = rounds_few door way d.gate.n (some_arm door d.gate w wait)

@@ -1,9 +1,9 @@
 -- A dispatcher, and what holds of every dispatcher in hand.
 use Rattle.std.specs.Prelude.{◌≡◌, ℕ, ◌≤◌, false, List}
-use Rattle.door.specs.Law.{IsReached}
-use Rattle.door.specs.Making.{Making}
-use Rattle.door.specs.States.{State, made, arm_at}
-use Rattle.door.specs.Table.{Table}
+use Rattle.gate_model.specs.Law.{IsReached}
+use Rattle.gate_model.specs.Making.{Making}
+use Rattle.gate_model.specs.States.{State, made, arm_at}
+use Rattle.gate_model.specs.Table.{Table}
 
 -- gate: the state of its gate; last: the arm that it served last, 0 at first
 pub record Dispatch (At : Type 0) : Type 0 where

@@ -1,16 +1,16 @@
 -- What a dispatcher does in one move, by the calls of its gate.
 use Rattle.std.specs.Prelude.{ℕ, ◌+◌, ◌-◌, Bool, true, false, if◌then◌else◌, not, ◌&&◌, List, [], ◌∷◌, ◌++◌, drop, Some, None, Ok, Err, Option, Result}
 use Rattle.std.specs.List.{find, range_with_len}
-use Rattle.door.specs.Calls.{refusal_of, answered, run}
-use Rattle.door.specs.History.{is_in}
-use Rattle.door.specs.States.{State, is_arm}
-use Rattle.door.specs.Table.{Table}
-use Rattle.door.specs.declared.call.Call.{Call}
-use Rattle.door.specs.declared.call.Call.TheVariants.{Begin as begin, Step as step, Admit as admit, Leave as leave}
-use Rattle.door.specs.declared.phase.Phase.{Phase}
-use Rattle.door.specs.declared.phase.Phase.TheVariants as P
-use Rattle.door.specs.declared.refusal.Refusal.{Refusal}
-use Rattle.door.specs.declared.refusal.Refusal.TheVariants as R
+use Rattle.gate_model.specs.Calls.{refusal_of, answered, run}
+use Rattle.gate_model.specs.History.{is_in}
+use Rattle.gate_model.specs.States.{State, is_arm}
+use Rattle.gate_model.specs.Table.{Table}
+use Rattle.gate_model.specs.declared.call.Call.{Call}
+use Rattle.gate_model.specs.declared.call.Call.TheVariants.{Begin as begin, Step as step, Admit as admit, Leave as leave}
+use Rattle.gate_model.specs.declared.phase.Phase.{Phase}
+use Rattle.gate_model.specs.declared.phase.Phase.TheVariants as P
+use Rattle.gate_model.specs.declared.refusal.Refusal.{Refusal}
+use Rattle.gate_model.specs.declared.refusal.Refusal.TheVariants as R
 use Rattle.ring.specs.Rings.{Held, items, taken}
 use Rattle.dispatcher.specs.Dispatchers.{Dispatch}
 
@@ -31,9 +31,9 @@ abbrev pub in_turn : ℕ → ℕ → List ℕ
 in_turn n last = range_with_len (last + 1) (n - last) ++ range_with_len 1 last
 
 -- the number of an arm that is served, 0 for none; and which arm is then the one served last
-abbrev pub number_of : Option ℕ → ℕ
-number_of None = 0
-number_of (Some i) = i
+abbrev pub number_or_0 : Option ℕ → ℕ
+number_or_0 None = 0
+number_or_0 (Some i) = i
 
 abbrev pub last_after : ℕ → Option ℕ → ℕ
 last_after last None = last
@@ -77,12 +77,12 @@ module _ {At : Type 0} (door : Table At) where
   abbrev pub in_line : Dispatch At → List ℕ → Option ℕ
   in_line d asked = first_busy (opened d asked) d.last
 
-  abbrev pub calls_of : Dispatch At → List ℕ → List Call
-  calls_of d asked = opening asked ++ serving_any (opened d asked) (in_line d asked)
+  abbrev pub calls_of_move : Dispatch At → List ℕ → List Call
+  calls_of_move d asked = opening asked ++ serving_any (opened d asked) (in_line d asked)
 
   -- what the move answers, and the dispatcher after it
   abbrev pub served : Dispatch At → List ℕ → ℕ
-  served d asked = number_of (in_line d asked)
+  served d asked = number_or_0 (in_line d asked)
 
   abbrev pub moved : Dispatch At → List ℕ → Dispatch At
-  moved d asked = record { gate = run door d.gate (calls_of d asked); last = last_after d.last (in_line d asked) }
+  moved d asked = record { gate = run door d.gate (calls_of_move d asked); last = last_after d.last (in_line d asked) }

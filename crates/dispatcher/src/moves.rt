@@ -1,5 +1,5 @@
 ghost use Rattle.std.specs.Prelude.{◌≡◌, ◌≤◌, IsTrue};
-ghost use Rattle.door.specs.Calls.{run};
+ghost use Rattle.gate_model.specs.Calls.{run};
 ghost use Rattle.ring.specs.Rings.{items};
 ghost use Rattle.dispatcher.specs.Dispatchers.{NoPassOut};
 ghost use Rattle.dispatcher.specs.Moves.{is_busy, is_inside, first_busy, goes_off, opening, serving, ring_after, items_after, served, moved};
@@ -7,9 +7,9 @@ ghost use Rattle.dispatcher.specs.Law.{LawOfMoves};
 
 use crate::dispatcher::Dispatcher;
 use bank::Bank;
-use door::{Phase, Refusal};
 use doors::Door;
 use gate::Gate;
+use gate_model::{Phase, Refusal};
 use ring::Ring;
 
 // Whether the head of the ring is taken off, by what begin answered: it is begun, or cannot be. A busy one stays.

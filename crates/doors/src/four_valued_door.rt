@@ -1,15 +1,15 @@
 ghost use Rattle.std.specs.Prelude.{◌≡◌};
 ghost use Rattle.four_valued.specs.Positions.{read_by, onward, four_valued};
-ghost use Rattle.mirror.proofs.Accesses.{accesses_by};
-ghost use Rattle.mirror.proofs.Doorways.{reads_by, indexes_by};
-ghost use Rattle.mirror.proofs.Meant.{phased_by, bits_by, rules_by};
-ghost use Rattle.mirror.proofs.Shown.{way_by};
+ghost use Rattle.simulation.proofs.Accesses.{accesses_by};
+ghost use Rattle.simulation.proofs.Doorways.{reads_by, indexes_by};
+ghost use Rattle.simulation.proofs.RulesShown.{phased_by, bits_by, rules_by};
+ghost use Rattle.simulation.proofs.Shown.{way_by};
 ghost use Rattle.four_valued.proofs.Plan.{plan};
 
 use crate::interface::Door;
-use door::Phase;
-use door::access::{Access, GROUP};
 use four_valued::position::{Doorway, Exit, FourValued, Place};
+use gate_model::Phase;
+use gate_model::access::{Access, GROUP};
 
 // What the state of an arm is while it chooses, and while it is idle.
 const CHOOSING: u64 = 2;

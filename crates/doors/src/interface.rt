@@ -1,13 +1,13 @@
 ghost use Rattle.std.specs.Prelude.{◌≡◌, ℕ, ◌+◌, ◌*◌, ◌≤◌};
-ghost use Rattle.door.specs.Accesses.{ShowsAccesses};
-ghost use Rattle.door.specs.Doorways.{ShowsReads};
-ghost use Rattle.door.specs.Indexes.{ShowsIndexes};
-ghost use Rattle.door.specs.Law.{ShowsWay};
-ghost use Rattle.door.specs.Rules.{Phased, ShowsBits, ShowsRules};
-ghost use Rattle.door.specs.Table.{Table};
+ghost use Rattle.gate_model.specs.Accesses.{ShowsAccesses};
+ghost use Rattle.gate_model.specs.Doorways.{ShowsReads};
+ghost use Rattle.gate_model.specs.Indexes.{ShowsIndexes};
+ghost use Rattle.gate_model.specs.Law.{ShowsWay};
+ghost use Rattle.gate_model.specs.Rules.{Phased, ShowsBits, ShowsRules};
+ghost use Rattle.gate_model.specs.Table.{Table};
 
-use door::Phase;
-use door::access::Access;
+use gate_model::Phase;
+use gate_model::access::Access;
 
 /// A door, by the positions that an arm has in it: a gate keeps one in the record of each arm.
 ///

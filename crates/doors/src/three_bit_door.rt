@@ -1,14 +1,14 @@
 ghost use Rattle.std.specs.Prelude.{◌≡◌};
 ghost use Rattle.three_bits.specs.Positions.{choosing_of, mygroup_of, flag_of, read_by, onward, three_bits};
-ghost use Rattle.mirror.proofs.Accesses.{accesses_by};
-ghost use Rattle.mirror.proofs.Doorways.{reads_by, indexes_by};
-ghost use Rattle.mirror.proofs.Meant.{phased_by, bits_by, rules_by};
-ghost use Rattle.mirror.proofs.Shown.{way_by};
+ghost use Rattle.simulation.proofs.Accesses.{accesses_by};
+ghost use Rattle.simulation.proofs.Doorways.{reads_by, indexes_by};
+ghost use Rattle.simulation.proofs.RulesShown.{phased_by, bits_by, rules_by};
+ghost use Rattle.simulation.proofs.Shown.{way_by};
 ghost use Rattle.three_bits.proofs.Plan.{plan};
 
 use crate::interface::Door;
-use door::Phase;
-use door::access::{Access, GROUP};
+use gate_model::Phase;
+use gate_model::access::{Access, GROUP};
 use three_bits::position::{Doorway, Exit, Place, ThreeBits};
 
 // The three registers of arm i.

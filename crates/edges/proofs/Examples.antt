@@ -1,13 +1,13 @@
 -- Three histories of the three-bit door, worked out.
 use Rattle.std.proofs.Common.{◌≡◌, ℕ, true, false, List, [], ◌∷◌, ◌++◌, get_or, replicate, refl}
 use Rattle.bank.specs.Lent.{unlogged}
-use Rattle.door.specs.Making.{largest}
-use Rattle.door.specs.States.{State, made, arm_at, phase_at}
-use Rattle.door.specs.Calls.{run, has_way}
-use Rattle.door.specs.History.{bit_read, entries_since, idle_then, lost_to}
-use Rattle.door.specs.declared.call.Call.{Call}
-use Rattle.door.specs.declared.call.Call.TheVariants.{Begin as begin, Step as step, Admit as admit, Leave as leave}
-use Rattle.door.specs.declared.phase.Phase.TheVariants as P
+use Rattle.gate_model.specs.Making.{largest}
+use Rattle.gate_model.specs.States.{State, made, arm_at, phase_at}
+use Rattle.gate_model.specs.Calls.{run, has_way}
+use Rattle.gate_model.specs.History.{bit_read, entries_since, idle_then, lost_to}
+use Rattle.gate_model.specs.declared.call.Call.{Call}
+use Rattle.gate_model.specs.declared.call.Call.TheVariants.{Begin as begin, Step as step, Admit as admit, Leave as leave}
+use Rattle.gate_model.specs.declared.phase.Phase.TheVariants as P
 use Rattle.three_bits.specs.Positions.{three_bits}
 use Rattle.three_bits.specs.declared.position.ThreeBits.{ThreeBits}
 

@@ -11,13 +11,13 @@ use Rattle.schedule.specs.declared.number.Number.{Number}
 use Rattle.schedule.specs.Reading.{Contents, contents, says, orders_from}
 use Rattle.schedule.specs.declared.fault.PlayFault.{PlayFault}
 use Rattle.bank.specs.Lent.{Lent, unlogged}
-use Rattle.door.specs.Table.{Table}
-use Rattle.door.specs.Calls.{refusal_of, way_answer}
+use Rattle.gate_model.specs.Table.{Table}
+use Rattle.gate_model.specs.Calls.{refusal_of, way_answer}
 use Rattle.gate.specs.Answers.{tally_answer}
-use Rattle.door.specs.Making.{arms_for, largest}
-use Rattle.door.specs.Refusals.{refusal_number}
+use Rattle.gate_model.specs.Making.{arms_for, largest}
+use Rattle.gate_model.specs.Refusals.{refusal_number}
 use Rattle.gate.specs.declared.gate.Tally.{Tally}
-use Rattle.door.specs.declared.refusal.Refusal.{Refusal}
+use Rattle.gate_model.specs.declared.refusal.Refusal.{Refusal}
 use Rattle.play.specs.Limits.{report_room}
 use Rattle.play.specs.Playing.{playable, play_answer, play_memory, play_text}
 use Rattle.play.specs.Reports.{fault_text, layer_word}

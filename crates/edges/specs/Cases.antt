@@ -6,16 +6,16 @@ use Rattle.schedule.specs.Numbers.{groups, number_from}
 use Rattle.schedule.specs.Reading.{contents, says}
 use Rattle.schedule.specs.declared.fault.PlayFault.{PlayFault}
 use Rattle.bank.specs.Lent.{Lent, unlogged}
-use Rattle.door.specs.Table.{Table}
-use Rattle.door.specs.Arms.{fresh}
-use Rattle.door.specs.Calls.{refusal_of, way_answer, with_visit}
+use Rattle.gate_model.specs.Table.{Table}
+use Rattle.gate_model.specs.Arms.{fresh}
+use Rattle.gate_model.specs.Calls.{refusal_of, way_answer, with_visit}
 use Rattle.gate.specs.Answers.{tally_answer}
-use Rattle.door.specs.Making.{arms_for}
-use Rattle.door.specs.Refusals.{refusal_number}
-use Rattle.door.specs.States.{State, made, with_arm}
-use Rattle.door.specs.declared.call.Call.{Call}
+use Rattle.gate_model.specs.Making.{arms_for}
+use Rattle.gate_model.specs.Refusals.{refusal_number}
+use Rattle.gate_model.specs.States.{State, made, with_arm}
+use Rattle.gate_model.specs.declared.call.Call.{Call}
 use Rattle.gate.specs.declared.gate.Tally.{Tally}
-use Rattle.door.specs.declared.refusal.Refusal.{Refusal}
+use Rattle.gate_model.specs.declared.refusal.Refusal.{Refusal}
 use Rattle.play.specs.Limits.{report_room}
 use Rattle.play.specs.Playing.{obeyed_by, playable, play_answer, play_memory}
 use Rattle.play.specs.Reports.{fault_text, layer_word}

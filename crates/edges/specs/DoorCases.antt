@@ -2,9 +2,9 @@
 use Rattle.std.specs.Prelude.{ℕ, ◌+◌, true, false, List, [], ◌∷◌, ◌++◌, replicate}
 use Prim.Native.String.{String, ◌++◌ as ◌then◌}
 use Rattle.machine.specs.Kinds.{Kind, three_bits, four_valued}
-use Rattle.door.specs.Table.{Table}
-use Rattle.door.specs.States.{State}
-use Rattle.door.specs.declared.call.Call.TheVariants.{Begin as begin, Way as way}
+use Rattle.gate_model.specs.Table.{Table}
+use Rattle.gate_model.specs.States.{State}
+use Rattle.gate_model.specs.declared.call.Call.TheVariants.{Begin as begin, Way as way}
 use Rattle.edges.specs.Cases as C
 use Rattle.edges.specs.Cases.{Case, plays, accepts, refuses, frees, counts, notes, turned}
 

@@ -1,6 +1,6 @@
 -- The edge cases of the four-valued door, over a bank of as many bytes as the most arms take.
 use Rattle.std.specs.Prelude.{ℕ, List, ◌∷◌, replicate}
-use Rattle.door.specs.Limits.{arm_limit}
+use Rattle.gate_model.specs.Limits.{arm_limit}
 use Rattle.machine.specs.Kinds as K
 use Rattle.four_valued.specs.Positions.{four_valued}
 use Rattle.four_valued.specs.declared.position.FourValued.{FourValued}

@@ -3,8 +3,8 @@ use Rattle.std.proofs.Common.{◌≡◌, ℕ, Bool, T, refl, arith}
 use Rattle.std.proofs.lemmas.Bool.{cond-false, ne_eqb}
 use Rattle.machine.specs.Kinds as K
 use Rattle.machine.proofs.Machine.{Stance, idle, d1, d2, d3, d4, d5, waits, inside, x1, x2, phase, step_arm, may_step}
-use Rattle.mirror.proofs.Layouts.{cell, holds, deed, layout_of}
-use Rattle.mirror.proofs.Plans.{number_of, is_d2, is_x2, looks_at, access_for, seen, Plan}
+use Rattle.simulation.proofs.Layouts.{cell, holds, deed, layout_of}
+use Rattle.simulation.proofs.Plans.{side_number, is_d2, is_x2, looks_at, access_for, read_by_deed, Plan}
 use Rattle.four_valued.specs.declared.position.Doorway.TheVariants.{Choose, Read, Tell}
 use Rattle.four_valued.specs.declared.position.Place.{Place}
 use Rattle.four_valued.specs.declared.position.Place.TheVariants as W
@@ -14,7 +14,7 @@ use Rattle.four_valued.specs.declared.position.FourValued.TheVariants.{Idle, Doo
 use Rattle.four_valued.specs.Positions.{four_valued, phase_of, reads as reads_here, is_turned as turned_here, index_of, access_of, next_of}
 
 -- where a stance stands; the machine's arms never come to d3, d4 and W6 at this door
-abbrev place_of : K.Place → Place
+abbrev place_of : K.WaitingPlace → Place
 place_of K.W1 = W.Group
 place_of K.W2 = W.Choosing
 place_of K.W3 = W.Side
@@ -35,10 +35,10 @@ place (x1 s) = Leaving Turn
 place (x2 s) = Leaving Rest
 
 -- the table
-accesses : (i : ℕ) (a : Stance) → access_of i (number_of a) (place a) ≡ access_for (cell K.four_valued) (deed K.four_valued a) i
+accesses : (i : ℕ) (a : Stance) → access_of i (side_number a) (place a) ≡ access_for (cell K.four_valued) (deed K.four_valued a) i
 accesses i a = grind arith
 
-leads : (n : ℕ) (β : Bool) (arms : ℕ → Stance) (a : Stance) → T (may_step a) → next_of n (number_of a) (seen (holds K.four_valued) β arms (deed K.four_valued a)) (place a) ≡ place (step_arm K.four_valued n β arms a)
+leads : (n : ℕ) (β : Bool) (arms : ℕ → Stance) (a : Stance) → T (may_step a) → next_of n (side_number a) (read_by_deed (holds K.four_valued) β arms (deed K.four_valued a)) (place a) ≡ place (step_arm K.four_valued n β arms a)
 leads n β arms (waits u j K.W1) k = grind arith
 leads n β arms (waits u j p) k = grind arith
 leads n β arms a k = grind arith

@@ -1,11 +1,11 @@
 -- The table of positions of the four-valued door: the one access at each, and where the value just read leads.
 use Rattle.std.specs.Prelude.{ℕ, ◌+◌, ◌-◌, ◌*◌, Bool, true, false, if◌then◌else◌, ◌==◌, nat_lt}
-use Rattle.door.specs.Registers.{group}
-use Rattle.door.specs.Table.{Table}
-use Rattle.door.specs.declared.access.Access.{Access}
-use Rattle.door.specs.declared.access.Access.TheVariants as A
-use Rattle.door.specs.declared.phase.Phase.{Phase}
-use Rattle.door.specs.declared.phase.Phase.TheVariants as P
+use Rattle.gate_model.specs.Registers.{group}
+use Rattle.gate_model.specs.Table.{Table}
+use Rattle.gate_model.specs.declared.access.Access.{Access}
+use Rattle.gate_model.specs.declared.access.Access.TheVariants as A
+use Rattle.gate_model.specs.declared.phase.Phase.{Phase}
+use Rattle.gate_model.specs.declared.phase.Phase.TheVariants as P
 use Rattle.four_valued.specs.declared.position.Doorway.TheVariants.{Choose, Read, Tell}
 use Rattle.four_valued.specs.declared.position.Place.{Place}
 use Rattle.four_valued.specs.declared.position.Place.TheVariants as W

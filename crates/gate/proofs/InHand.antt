@@ -1,14 +1,14 @@
 -- A gate in hand: all that holds of it follows from a making and calls that lead to it.
 use Rattle.std.proofs.Common.{◌≡◌, ◌≤◌, length, subst, arith}
-use Rattle.door.specs.Calls.{after}
-use Rattle.door.specs.Law.{IsReached}
-use Rattle.door.specs.Limits.{arm_limit}
-use Rattle.door.specs.States.{State}
-use Rattle.door.specs.Table.{Table}
-use Rattle.door.specs.declared.call.Call.{Call}
-use Rattle.door.proofs.Always.{at_most, same_at}
-use Rattle.door.proofs.Bounds.{bounded_at}
-use Rattle.door.proofs.Origins.{reached_after}
+use Rattle.gate_model.specs.Calls.{after}
+use Rattle.gate_model.specs.Law.{IsReached}
+use Rattle.gate_model.specs.Limits.{arm_limit}
+use Rattle.gate_model.specs.States.{State}
+use Rattle.gate_model.specs.Table.{Table}
+use Rattle.gate_model.specs.declared.call.Call.{Call}
+use Rattle.gate_model.proofs.Always.{at_most, same_at}
+use Rattle.gate_model.proofs.Bounds.{bounded_at}
+use Rattle.gate_model.proofs.Origins.{reached_after}
 use Rattle.gate.specs.Gates.{IsGate}
 
 module _ {At : Type 0} (door : Table At) where

@@ -3,17 +3,17 @@ use Rattle.std.proofs.Common.{◌≡◌, ℕ, ◌-◌, ◌≤◌, Bool, true, fa
 use Rattle.std.proofs.lemmas.Bool.{eqb-true}
 use Rattle.std.proofs.lemmas.Bool.Decides.{nat_tests}
 use Rattle.std.proofs.lemmas.List.{get_or-set_same, get_or-set_other, set_past}
-use Rattle.door.specs.Arms.{no_arm}
-use Rattle.door.specs.Calls.{refusal_of, admit_refusal, answered, unless, knows, with_visit, arm_after, done, stepped, after}
-use Rattle.door.specs.States.{State, is_arm, arm_at, phase_at, with_arm}
-use Rattle.door.specs.Table.{Table}
-use Rattle.door.specs.declared.arm.Arm.{Arm}
-use Rattle.door.specs.declared.call.Call.TheVariants.{Begin, Step, Admit, Leave}
-use Rattle.door.specs.declared.refusal.Refusal.{Refusal}
-use Rattle.door.specs.declared.refusal.Refusal.TheVariants as R
-use Rattle.door.proofs.Accepted.{unless_both, known_arm, arm_is}
-use Rattle.door.proofs.Bools.{by, test, and_T, is_true}
-use Rattle.door.proofs.SameButRow.{tallied_table}
+use Rattle.gate_model.specs.Arms.{no_arm}
+use Rattle.gate_model.specs.Calls.{refusal_of, admit_refusal, answered, unless, knows, with_visit, arm_after, done, stepped, after}
+use Rattle.gate_model.specs.States.{State, is_arm, arm_at, phase_at, with_arm}
+use Rattle.gate_model.specs.Table.{Table}
+use Rattle.gate_model.specs.declared.arm.Arm.{Arm}
+use Rattle.gate_model.specs.declared.call.Call.TheVariants.{Begin, Step, Admit, Leave}
+use Rattle.gate_model.specs.declared.refusal.Refusal.{Refusal}
+use Rattle.gate_model.specs.declared.refusal.Refusal.TheVariants as R
+use Rattle.gate_model.proofs.Accepted.{unless_both, known_arm, arm_is}
+use Rattle.gate_model.proofs.Bools.{by, test, and_T, is_true}
+use Rattle.gate_model.proofs.SameButRow.{tallied_table}
 use Rattle.gate.specs.Answers.{admit_answer}
 use Rattle.gate.specs.Passes.{passes_out, with_given, without}
 use Rattle.gate.specs.declared.pass.Pass.{Pass}

@@ -1,5 +1,5 @@
 pub mod InHand
 pub mod Kept
 pub mod Noting
-pub mod Places
-pub mod Told
+pub mod RecordPlaces
+pub mod RecordsRead

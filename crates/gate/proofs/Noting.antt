@@ -3,14 +3,14 @@ use Rattle.std.proofs.Common.{◌≡◌, ℕ, ◌+◌, ◌<◌, ◌≤◌, Bool,
 use Rattle.std.proofs.lemmas.Bool.{cases_eq}
 use Rattle.std.proofs.lemmas.List.{length-set, length-replicate, get_or-replicate, get_or-set_same, get_or-set_other, get_or_read, set-get_or}
 use Rattle.std.proofs.Math.Seq.{map-set_same}
-use Rattle.door.specs.Arms.{no_arm}
-use Rattle.door.specs.Limits.{arm_limit}
-use Rattle.door.specs.Table.{Table}
-use Rattle.door.specs.Tallies.{is_idle, with_row, row_started}
-use Rattle.door.specs.declared.arm.Arm.{Arm}
-use Rattle.door.specs.declared.phase.Phase.TheVariants as P
-use Rattle.door.proofs.SameButRow.{row_table}
-use Rattle.door.proofs.Tables.{map_first, idle_is}
+use Rattle.gate_model.specs.Arms.{no_arm}
+use Rattle.gate_model.specs.Limits.{arm_limit}
+use Rattle.gate_model.specs.Table.{Table}
+use Rattle.gate_model.specs.Tallies.{is_idle, with_row, row_started}
+use Rattle.gate_model.specs.declared.arm.Arm.{Arm}
+use Rattle.gate_model.specs.declared.phase.Phase.TheVariants as P
+use Rattle.gate_model.proofs.SameButRow.{row_table}
+use Rattle.gate_model.proofs.Tables.{map_first, idle_is}
 
 module _ {At : Type 0} (door : Table At) (old : List (Arm At)) (k : ℕ) where
   -- only the record at k is another: its row is 0, and these are its notes
@@ -43,9 +43,9 @@ module _ {At : Type 0} (door : Table At) (old : List (Arm At)) (k : ℕ) where
         ap (λ x. set x k (record (get_or arms k a) { notes = t' })) e ∙ set-set old k _ _ ∙ ap (λ x. set old k (record x { notes = t' })) r
 
     -- one more
-    pub more : (j : ℕ) (arms : List (Arm At)) (a : Arm At) (v : Bool) → Noting j arms → j < arm_limit → a ≡ get_or arms k a → v ≡ is_idle door (get_or arms j (no_arm door))
+    pub noting_goes_on : (j : ℕ) (arms : List (Arm At)) (a : Arm At) (v : Bool) → Noting j arms → j < arm_limit → a ≡ get_or arms k a → v ≡ is_idle door (get_or arms j (no_arm door))
         → Noting (j + 1) (set arms k (record (get_or arms k a) { notes = set (get_or arms k a).notes j v }))
-    more j arms a v h below is told =
+    noting_goes_on j arms a v h below is told =
         let e = h.0 in
         let t = notes arms in
         let len = h.1.0 in
@@ -65,9 +65,9 @@ module _ {At : Type 0} (door : Table At) (old : List (Arm At)) (k : ℕ) where
         ))
 
     -- all of the gate's, and those past them are idle
-    pub done : (j : ℕ) (arms : List (Arm At)) (n : ℕ) → length old ≡ arm_limit → Noting j arms → n ≤ j → ((m : ℕ) → n ≤ m → door.phase (get_or old m (no_arm door)).position ≡ P.I)
+    pub noting_ends : (j : ℕ) (arms : List (Arm At)) (n : ℕ) → length old ≡ arm_limit → Noting j arms → n ≤ j → ((m : ℕ) → n ≤ m → door.phase (get_or old m (no_arm door)).position ≡ P.I)
         → arms ≡ row_started door k old
-    done j arms n full h past rest =
+    noting_ends j arms n full h past rest =
         h.0 ∙ ap noted (map_first (is_idle door) j (notes arms) old (no_arm door) false (h.1.0 ∙ sym full)
         (λ m lt. h.1.1 m lt)
         (λ m le lt. h.1.2 m le (omega (arith, full, lt)) ∙ sym (idle_is door (get_or old m (no_arm door)) (rest m (omega (arith, past, le))))))
@@ -94,8 +94,8 @@ module _ {At : Type 0} (door : Table At) (old : List (Arm At)) (k : ℕ) (here :
   at_k : get_or begun k (no_arm door) ≡ with_row (replicate arm_limit 0) (replicate arm_limit true) (get_or old k (no_arm door))
   at_k = ap (λ x. get_or x k (no_arm door)) begun_is ∙ get_or-set_same old k _ (no_arm door) here
 
-  pub begin : Noting door begun k 0 begun
-  begin =
+  pub noting_begins : Noting door begun k 0 begun
+  noting_begins =
       noting door begun k begun_here 0 begun (replicate arm_limit true)
       (sym (set-get_or begun k (no_arm door)) ∙ ap (set begun k) (at_k ∙ ap (with_row (replicate arm_limit 0) (replicate arm_limit true)) (sym at_k)))
       (length-replicate {A = Bool} arm_limit true, (λ m h. absurd (omega (arith, h))), (λ m past h. get_or-replicate arm_limit m true false h))

@@ -1,14 +1,14 @@
 -- What the calls answer.
 use Rattle.std.specs.Prelude.{ℕ, zero, suc, ◌-◌, max, false, List, Some, None, Ok, Err, Option, Result, slice_index, slice_index_or}
-use Rattle.door.specs.Table.{Table}
-use Rattle.door.specs.Calls.{refusal_of, answered, arm_after}
-use Rattle.door.specs.States.{State, arm_at, phase_at}
-use Rattle.door.specs.declared.arm.Arm.{Arm}
-use Rattle.door.specs.declared.call.Call.{Call}
-use Rattle.door.specs.declared.call.Call.TheVariants.{Step as step, Admit as admit, Leave as leave, Look as look, Tally as tally}
-use Rattle.door.specs.declared.phase.Phase.{Phase}
-use Rattle.door.specs.declared.phase.Phase.TheVariants as P
-use Rattle.door.specs.declared.refusal.Refusal.{Refusal}
+use Rattle.gate_model.specs.Table.{Table}
+use Rattle.gate_model.specs.Calls.{refusal_of, answered, arm_after}
+use Rattle.gate_model.specs.States.{State, arm_at, phase_at}
+use Rattle.gate_model.specs.declared.arm.Arm.{Arm}
+use Rattle.gate_model.specs.declared.call.Call.{Call}
+use Rattle.gate_model.specs.declared.call.Call.TheVariants.{Step as step, Admit as admit, Leave as leave, Look as look, Tally as tally}
+use Rattle.gate_model.specs.declared.phase.Phase.{Phase}
+use Rattle.gate_model.specs.declared.phase.Phase.TheVariants as P
+use Rattle.gate_model.specs.declared.refusal.Refusal.{Refusal}
 use Rattle.gate.specs.declared.gate.Tally.{Tally}
 use Rattle.gate.specs.declared.gate.View.{View}
 use Rattle.gate.specs.declared.pass.HandedBack.{HandedBack}

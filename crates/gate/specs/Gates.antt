@@ -1,12 +1,12 @@
 -- What holds of every gate in hand.
 use Rattle.std.specs.Prelude.{◌≡◌, ℕ, ◌≤◌, List, length, slice_index_or}
-use Rattle.door.specs.Law.{IsReached}
-use Rattle.door.specs.Limits.{arm_limit}
-use Rattle.door.specs.Table.{Table}
-use Rattle.door.specs.Arms.{no_arm}
-use Rattle.door.specs.States.{State}
-use Rattle.door.specs.declared.arm.Arm.{Arm}
-use Rattle.door.specs.declared.phase.Phase.TheVariants as P
+use Rattle.gate_model.specs.Law.{IsReached}
+use Rattle.gate_model.specs.Limits.{arm_limit}
+use Rattle.gate_model.specs.Table.{Table}
+use Rattle.gate_model.specs.Arms.{no_arm}
+use Rattle.gate_model.specs.States.{State}
+use Rattle.gate_model.specs.declared.arm.Arm.{Arm}
+use Rattle.gate_model.specs.declared.phase.Phase.TheVariants as P
 
 -- only a making and calls lead to it
 pub record IsGate {At : Type 0} (door : Table At) (s : State At) : Type 0 where

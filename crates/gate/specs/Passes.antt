@@ -1,12 +1,12 @@
 -- Which passes are out, that is, good for a leave; and what the calls make of them.
 use Rattle.std.specs.Prelude.{ℕ, Bool, true, false, not, ◌&&◌, ◌||◌, Ok, Err, Result, ◌==◌}
-use Rattle.door.specs.Table.{Table}
-use Rattle.door.specs.Calls.{knows}
-use Rattle.door.specs.States.{State}
-use Rattle.door.specs.declared.phase.Phase.{Phase}
-use Rattle.door.specs.declared.phase.Phase.TheVariants as P
-use Rattle.door.specs.declared.refusal.Refusal.{Refusal}
-use Rattle.door.specs.declared.refusal.Refusal.TheVariants as R
+use Rattle.gate_model.specs.Table.{Table}
+use Rattle.gate_model.specs.Calls.{knows}
+use Rattle.gate_model.specs.States.{State}
+use Rattle.gate_model.specs.declared.phase.Phase.{Phase}
+use Rattle.gate_model.specs.declared.phase.Phase.TheVariants as P
+use Rattle.gate_model.specs.declared.refusal.Refusal.{Refusal}
+use Rattle.gate_model.specs.declared.refusal.Refusal.TheVariants as R
 use Rattle.gate.specs.declared.pass.HandedBack.{HandedBack}
 use Rattle.gate.specs.declared.pass.Pass.{Pass}
 

@@ -1,15 +1,15 @@
 ghost use Rattle.std.specs.Prelude.{◌≡◌};
-ghost use Rattle.door.specs.States.{made};
-ghost use Rattle.door.specs.Calls.{after, run};
-ghost use Rattle.door.specs.Law.{Fair, PassingBound};
-ghost use Rattle.door.specs.Rules.{ShowsRules};
-ghost use Rattle.door.specs.Turns.{TurnsTold};
+ghost use Rattle.gate_model.specs.States.{made};
+ghost use Rattle.gate_model.specs.Calls.{after, run};
+ghost use Rattle.gate_model.specs.Law.{Fair, PassingBound};
+ghost use Rattle.gate_model.specs.Rules.{ShowsRules};
+ghost use Rattle.gate_model.specs.Turns.{TurnsTold};
 
 use crate::gate::Gate;
 use crate::pass::{HandedBack, Pass};
 use bank::Bank;
-use door::Call;
 use doors::Door;
+use gate_model::Call;
 
 impl<B: Bank, D: Door> Gate<B, D> {
     // Makes one call; what it answers is let go, and a pass is known by its number.

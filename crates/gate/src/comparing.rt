@@ -1,15 +1,15 @@
 ghost use Rattle.std.specs.Prelude.{◌≡◌, ℕ, ◌<◌, ◌≤◌, ◌↔◌, IsTrue, slice_index, slice_index_or};
-ghost use Rattle.door.specs.Limits.{arm_limit};
-ghost use Rattle.gate.specs.Alike.{Alike};
-ghost use Rattle.door.specs.Arms.{no_arm};
+ghost use Rattle.gate_model.specs.Limits.{arm_limit};
+ghost use Rattle.gate.specs.SameGates.{SameGates};
+ghost use Rattle.gate_model.specs.Arms.{no_arm};
 
 use crate::gate::Gate;
 use crate::making::registers;
 use bank::Bank;
-use door::Phase;
-use door::access::value_at;
-use door::arm::{ARM_LIMIT, Arm};
 use doors::Door;
+use gate_model::Phase;
+use gate_model::access::value_at;
+use gate_model::arm::{ARM_LIMIT, Arm};
 
 // Whether the first registers of two banks hold the same values.
 fn same_registers<B: Bank, C: Bank>(a: &B, b: &C, count: usize) -> bool
@@ -41,7 +41,7 @@ fn same_phases<D: Door>(a: &[Arm<D>; ARM_LIMIT], b: &[Arm<D>; ARM_LIMIT], count:
 
 /// Whether two gates of one door, over banks of any kinds, have as many arms, the same registers and arms in the same phases.
 pub fn same<B: Bank, C: Bank, D: Door>(a: &Gate<B, D>, b: &Gate<C, D>) -> bool
-    ensures { IsTrue result ↔ Alike D.table a.now b.now }
+    ensures { IsTrue result ↔ SameGates D.table a.now b.now }
 {
     a.n == b.n
         && (a.n == 0

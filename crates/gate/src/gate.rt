@@ -1,7 +1,7 @@
 use bank::Bank;
-use door::Phase;
-use door::arm::{ARM_LIMIT, Arm};
 use doors::Door;
+use gate_model::Phase;
+use gate_model::arm::{ARM_LIMIT, Arm};
 use std::marker::Model;
 
 /// Steps up to [`ARM_LIMIT`] arms towards a shared section, through a door. It owns its bank.
@@ -16,7 +16,7 @@ pub struct Gate<B: Bank, D: Door> {
 
 // Clauses see a gate as its state. Only a making and calls lead to one.
 impl<B: Bank, D: Door> Model for Gate<B, D> {
-    ghost use Rattle.door.specs.States.{State};
+    ghost use Rattle.gate_model.specs.States.{State};
     ghost use Rattle.gate.specs.Gates.{IsGate};
 
     ghost Value = { State D };

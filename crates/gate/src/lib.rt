@@ -12,7 +12,7 @@ mod refusals;
 // Begin and step.
 mod moving;
 // Admit, confirm and leave.
-mod passing;
+mod passes;
 // Look, tally, and what a report wants to know.
 mod watching;
 // Right of way.
@@ -21,7 +21,7 @@ mod way;
 mod rows;
 // A gate that carries out a list of calls.
 mod carrying;
-// Whether two gates are alike.
+// Whether two gates are the same to a host.
 mod comparing;
 
 pub use carrying::carry_out;

@@ -1,13 +1,13 @@
 ghost use Rattle.std.specs.Prelude.{◌≡◌, ◌≤◌, length, nat_le, replicate};
-ghost use Rattle.door.specs.Arms.{fresh};
-ghost use Rattle.door.specs.Limits.{arm_limit};
-ghost use Rattle.door.specs.Making.{arms_for, IsLargest, cleared, cleared_memory};
-ghost use Rattle.door.specs.States.{made};
+ghost use Rattle.gate_model.specs.Arms.{fresh};
+ghost use Rattle.gate_model.specs.Limits.{arm_limit};
+ghost use Rattle.gate_model.specs.Making.{arms_for, IsLargest, cleared, cleared_memory};
+ghost use Rattle.gate_model.specs.States.{made};
 
 use crate::gate::Gate;
 use bank::Bank;
-use door::arm::{ARM_LIMIT, Arm};
 use doors::Door;
+use gate_model::arm::{ARM_LIMIT, Arm};
 
 // How many registers n arms take.
 pub(crate) fn registers<D: Door>(n: usize) -> usize
@@ -19,7 +19,7 @@ pub(crate) fn registers<D: Door>(n: usize) -> usize
 }
 
 // Whether the bank has the registers of n arms.
-fn has_room<B: Bank, D: Door>(bank: &B, n: usize) -> bool
+fn has_registers<B: Bank, D: Door>(bank: &B, n: usize) -> bool
     requires { n ≤ arm_limit }
     ensures { result ≡ nat_le (D.table.room n) (length (B.values bank.now)) }
 {
@@ -34,7 +34,7 @@ fn arm_count<B: Bank, D: Door>(bank: &B, wanted: usize) -> usize
         return 0;
     }
     let mut n = wanted.min(ARM_LIMIT);
-    while n > 0 && !has_room::<B, D>(bank, n) {
+    while n > 0 && !has_registers::<B, D>(bank, n) {
         n -= 1;
     }
     n
@@ -70,7 +70,7 @@ fn fresh_arms<D: Door>() -> [Arm<D>; ARM_LIMIT]
 impl<B: Bank, D: Door> Gate<B, D> {
     /// A gate over a bank, which it owns from then on; with the wanted arm count, or as many as the door has room for there, [`ARM_LIMIT`] at most.
     /// It cannot be refused.
-    #[tactic(auto, using(door::proofs::Rooms::arms_largest))]
+    #[tactic(auto, using(gate_model::proofs::Rooms::arms_largest))]
     pub fn make(mut bank: B, number: u16, wanted: usize) -> Gate<B, D>
         ensures made { result ≡ made D.table (record { memory = B.memory bank; high = B.HIGHEST; number = number; wanted = wanted; regs = B.values bank }) }
         ensures arms { IsLargest D.table B.HIGHEST (length (B.values bank)) wanted result.n }

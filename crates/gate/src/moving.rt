@@ -1,22 +1,22 @@
 ghost use Rattle.std.specs.Prelude.{◌≡◌, ◌≤◌, if◌then◌else◌, ◌&&◌, None, IsTrue, OnOk};
-ghost use Rattle.door.specs.declared.phase.Phase.TheVariants as P;
-ghost use Rattle.door.specs.declared.call.Call.TheVariants.{Begin, Step};
-ghost use Rattle.door.specs.Accesses.{OneAccess, can_make};
+ghost use Rattle.gate_model.specs.declared.phase.Phase.TheVariants as P;
+ghost use Rattle.gate_model.specs.declared.call.Call.TheVariants.{Begin, Step};
+ghost use Rattle.gate_model.specs.Accesses.{OneAccess, can_make};
 ghost use Rattle.gate.specs.Answers.{step_answer};
 ghost use Rattle.gate.specs.Gates.{IsGate};
 ghost use Rattle.gate.specs.Passes.{passes_out};
-ghost use Rattle.door.specs.Calls.{answered, refusal_of, after, access_at, arm_after, stepped};
-ghost use Rattle.door.specs.Arms.{advanced};
-ghost use Rattle.door.specs.Phases.{same_phase};
-ghost use Rattle.door.specs.States.{arm_at};
+ghost use Rattle.gate_model.specs.Calls.{answered, refusal_of, after, access_at, arm_after, stepped};
+ghost use Rattle.gate_model.specs.Arms.{advanced};
+ghost use Rattle.gate_model.specs.Phases.{same_phase};
+ghost use Rattle.gate_model.specs.States.{arm_at};
 
 use crate::gate::Gate;
 use crate::rows::follow;
 use bank::Bank;
-use door::access::Outcome;
-use door::arm::Arm;
-use door::{Phase, Refusal};
 use doors::Door;
+use gate_model::access::Outcome;
+use gate_model::arm::Arm;
+use gate_model::{Phase, Refusal};
 
 // The position and the value just read decide the next position together; it is rewritten in place. Answers the phase of it.
 // A side is kept from the doorway's read of the bit to the last exit step.
@@ -49,7 +49,7 @@ fn turns(from: Phase, turned: bool) -> u64
 
 impl<B: Bank, D: Door> Gate<B, D> {
     /// Begins a visit of an idle arm. Refuses with 1, 2 or 5.
-    #[tactic(auto, using(crate::proofs::Places::place_fits))]
+    #[tactic(auto, using(crate::proofs::RecordPlaces::place_fits))]
     pub fn begin(&mut self, arm: usize) -> Result<Phase, Refusal>
         ensures answer { result ≡ answered (refusal_of D.table self.old (Begin arm)) P.D }
         ensures after { self.new ≡ after D.table self.old (Begin arm) }

@@ -1,16 +1,16 @@
 ghost use Rattle.std.specs.Prelude.{◌≡◌};
-ghost use Rattle.door.specs.States.{is_arm};
-ghost use Rattle.door.specs.declared.call.Call.TheVariants.{Begin, Admit, Look, Way};
-ghost use Rattle.door.specs.Calls.{knows};
+ghost use Rattle.gate_model.specs.States.{is_arm};
+ghost use Rattle.gate_model.specs.declared.call.Call.TheVariants.{Begin, Admit, Look, Way};
+ghost use Rattle.gate_model.specs.Calls.{knows};
 ghost use Rattle.gate.specs.Answers.{record_for};
 ghost use Rattle.gate.specs.Gates.{IsGate};
 
 use crate::gate::Gate;
 use crate::pass::Pass;
 use bank::Bank;
-use door::arm::Arm;
-use door::{Phase, Refusal};
 use doors::Door;
+use gate_model::arm::Arm;
+use gate_model::{Phase, Refusal};
 
 // How many visits an arm begins at most.
 const VISIT_LIMIT: u32 = 1_000_000_000;

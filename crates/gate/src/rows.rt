@@ -1,13 +1,13 @@
 ghost use Rattle.std.specs.Prelude.{◌≡◌, ◌<◌, ◌≤◌, map, length};
-ghost use Rattle.door.specs.Limits.{arm_limit};
+ghost use Rattle.gate_model.specs.Limits.{arm_limit};
 ghost use Rattle.gate.specs.Answers.{largest_count};
-ghost use Rattle.door.specs.Tallies.{counted, is_idle, row_started, tallied};
+ghost use Rattle.gate_model.specs.Tallies.{counted, is_idle, row_started, tallied};
 ghost use Rattle.gate.specs.Gates.{RestIdle};
 
 use crate::comparing::phase_at;
-use door::Phase;
-use door::arm::{ARM_LIMIT, Arm};
 use doors::Door;
+use gate_model::Phase;
+use gate_model::arm::{ARM_LIMIT, Arm};
 
 // The arm at b went inside: an arm that waits adds 1 for it.
 fn count<D: Door>(arm: &mut Arm<D>, b: usize)

@@ -1,17 +1,17 @@
 ghost use Rattle.std.specs.Prelude.{◌≡◌, IfOk};
 ghost use Rattle.gate.specs.Answers.{phase_answer, look_answer, tally_answer, most_answer};
-ghost use Rattle.door.specs.Indexes.{IndexFits};
-ghost use Rattle.door.specs.States.{bit_of};
-ghost use Rattle.door.specs.Turns.{TurnsLaw};
+ghost use Rattle.gate_model.specs.Indexes.{IndexFits};
+ghost use Rattle.gate_model.specs.States.{bit_of};
+ghost use Rattle.gate_model.specs.Turns.{TurnsLaw};
 ghost use Rattle.gate.specs.Gates.{IsGate};
 
 use crate::comparing::phase_at;
 use crate::gate::{Gate, Tally, View};
 use crate::rows::largest;
 use bank::Bank;
-use door::access::{GROUP, value_at};
-use door::{Phase, Refusal};
 use doors::Door;
+use gate_model::access::{GROUP, value_at};
+use gate_model::{Phase, Refusal};
 
 impl<B: Bank, D: Door> Gate<B, D> {
     /// How many arms the gate has, `ARM_LIMIT` at most. Of any gate in hand: only a making and calls lead to it.
@@ -61,7 +61,7 @@ impl<B: Bank, D: Door> Gate<B, D> {
 
     /// How often the other arm went inside while this one waited, the last time that it did, and whether it was idle when that wait
     /// began: so of an idle arm what it lost by its last visit. Refuses with 1, for either arm.
-    #[tactic(auto, using(crate::proofs::Told::tally_told))]
+    #[tactic(auto, using(crate::proofs::RecordsRead::tally_told))]
     pub fn tally(&self, arm: usize, other: usize) -> Result<Tally, Refusal>
         ensures { result ≡ tally_answer D.table self.now arm other }
     {

@@ -1,13 +1,13 @@
 ghost use Rattle.std.specs.Prelude.{◌≡◌, ◌≤◌};
-ghost use Rattle.door.specs.Limits.{arm_limit};
-ghost use Rattle.door.specs.Calls.{some_side, free_for, way_answer};
-ghost use Rattle.door.specs.Law.{IsReached, Law, Tells};
+ghost use Rattle.gate_model.specs.Limits.{arm_limit};
+ghost use Rattle.gate_model.specs.Calls.{some_side, free_for, way_answer};
+ghost use Rattle.gate_model.specs.Law.{IsReached, Law, Tells};
 
 use crate::gate::Gate;
 use bank::Bank;
-use door::Refusal;
-use door::arm::{ARM_LIMIT, Arm};
 use doors::Door;
+use gate_model::Refusal;
+use gate_model::arm::{ARM_LIMIT, Arm};
 
 // Whether one of the first n arms has side t, in its doorway or past it.
 fn some_side<D: Door>(arms: &[Arm<D>; ARM_LIMIT], n: usize, t: u64) -> bool

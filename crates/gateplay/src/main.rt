@@ -6,7 +6,7 @@
 ghost use Rattle.std.specs.Prelude.{◌≡◌, ◌≤◌, length, take};
 ghost use Rattle.play.specs.Limits.{report_room};
 ghost use Rattle.play.specs.Playing.{playable};
-ghost use Rattle.gateplay.specs.Shown.{shown, status_of};
+ghost use Rattle.gateplay.specs.Printed.{shown, status_of};
 
 use bank::BitBank;
 use doors::ThreeBits;

@@ -1,30 +1,30 @@
 -- The invariant of the machine: who is inside, and what a waiting arm has passed.
 use Rattle.std.proofs.Common.{◌≡◌, ℕ, ◌≤◌, Bool, true, false, not, T, eqb, ◌⊎◌, sym, refl, subst, ⊎_elim, arith, eqb→eq}
 use Rattle.std.proofs.lemmas.Bool.Decides.{nat_tests}
-use Rattle.door.specs.declared.phase.Phase.TheVariants as P
-use Rattle.door.proofs.Bools.{same, same_refl, test, by}
-use Rattle.machine.specs.Kinds.{Kind, Place, W1, W2, W4, W5, W6}
-use Rattle.machine.proofs.Machine.{Stance, waits, inside, x1, x2, at, has, choosing, step_waiting, step_arm, turn_step, Move, step, act, turn, changed, Machine, moved_to, moved}
+use Rattle.gate_model.specs.declared.phase.Phase.TheVariants as P
+use Rattle.gate_model.proofs.Bools.{same_bit, same_refl, test, by}
+use Rattle.machine.specs.Kinds.{Kind, WaitingPlace, W1, W2, W4, W5, W6}
+use Rattle.machine.proofs.Machine.{Stance, waits, inside, x1, x2, at, has, choosing, step_waiting, step_arm, turn_step, Move, step, act, turn, with_stance, Machine, moved_to, moved}
 
 -- a place past W2
-abbrev pub late : Place → Bool
+abbrev pub late : WaitingPlace → Bool
 late W1 = false
 late W2 = false
 late p = true
 
 -- no arm has the side other than s, or the group differs from s
 abbrev pub Free : Bool → (ℕ → Stance) → Bool → Type 0
-Free β arms s = (k : ℕ) → T (has (not s) (arms k)) → T (same β (not s))
+Free β arms s = (k : ℕ) → T (has (not s) (arms k)) → T (same_bit β (not s))
 
 -- what the waiting arm at (j, p) with side s has passed
-abbrev pub Passed : Bool → (ℕ → Stance) → Bool → ℕ → Place → Type 0
-Passed β arms s j p = T (same β s) → (b : ℕ) → T (has (not s) (arms b)) → (j ≤ b) × (T (late p) → b ≡ j → T (not (choosing (arms b))))
+abbrev pub GonePast : Bool → (ℕ → Stance) → Bool → ℕ → WaitingPlace → Type 0
+GonePast β arms s j p = T (same_bit β s) → (b : ℕ) → T (has (not s) (arms b)) → (j ≤ b) × (T (late p) → b ≡ j → T (not (choosing (arms b))))
 
 abbrev pub Own : ℕ → Bool → (ℕ → Stance) → Stance → Type 0
-Own n β arms (waits s j p) = (1 ≤ j) × (j ≤ n) × Passed β arms s j p
+Own n β arms (waits s j p) = (1 ≤ j) × (j ≤ n) × GonePast β arms s j p
 Own n β arms (inside s o) = Free β arms s
 Own n β arms (x1 s) = Free β arms s
-Own n β arms (x2 s) = T (same β (not s))
+Own n β arms (x2 s) = T (same_bit β (not s))
 Own n β arms a = Unit {0}
 
 abbrev pub Ranged : ℕ → (ℕ → Stance) → Type 0
@@ -34,7 +34,7 @@ Ranged n arms = (k : ℕ) (t : Bool) → T (has t (arms k)) → (1 ≤ k) × (k 
 abbrev pub Awake : ℕ → (ℕ → Stance) → Type 0
 Awake n arms = (k : ℕ) → T (not (at P.I (arms k))) → (1 ≤ k) × (k ≤ n)
 
-abbrev pub far : Place → Bool
+abbrev pub far : WaitingPlace → Bool
 far W4 = true
 far W5 = true
 far W6 = true
@@ -58,7 +58,7 @@ at_x1 a = false
 
 -- the step of a waiting arm keeps what it has passed, and an arm goes inside only while it is free to
 module _ (n : ℕ) (β : Bool) (arms : ℕ → Stance) (range : Ranged n arms) where
-  pub wait_own : (δ : Kind) (s : Bool) (j : ℕ) (p : Place) → Own n β arms (waits s j p) → Own n β arms (step_waiting δ n β (arms j) s j p)
+  pub wait_own : (δ : Kind) (s : Bool) (j : ℕ) (p : WaitingPlace) → Own n β arms (waits s j p) → Own n β arms (step_waiting δ n β (arms j) s j p)
   wait_own δ s j W1 (lo, hi, past) = grind (arith, past)
   wait_own δ s j p (lo, hi, past) = grind (arith, nat_tests, range, past)
 
@@ -68,37 +68,37 @@ module _ (n : ℕ) (β : Bool) (arms : ℕ → Stance) (range : Ranged n arms) w
   step_own δ pos a d h = grind (arith, range)
 
 -- what a move can do to its arm, as the others see it: a side it has it had, and it chooses only if it did; or the side is the group
-abbrev pub Seen : Bool → Stance → Stance → Type 0
-Seen β a a' = (t : Bool) → T (has t a') → (T (has t a) × (T (choosing a') → T (choosing a))) ⊎ T (same t β)
+abbrev pub NothingNew : Bool → Stance → Stance → Type 0
+NothingNew β a a' = (t : Bool) → T (has t a') → (T (has t a) × (T (choosing a') → T (choosing a))) ⊎ T (same_bit t β)
 
-pub seen_act : (m : Move) (δ : Kind) (n : ℕ) (β : Bool) (arms : ℕ → Stance) (a : Stance) → Seen β a (act m δ n β arms a)
-seen_act m δ n β arms a t h = grind arith
+pub act_nothing_new : (m : Move) (δ : Kind) (n : ℕ) (β : Bool) (arms : ℕ → Stance) (a : Stance) → NothingNew β a (act m δ n β arms a)
+act_nothing_new m δ n β arms a t h = grind arith
 
 -- the others' facts last while the group does
-keep : (n : ℕ) (β : Bool) (arms arms' : ℕ → Stance) → ((k : ℕ) → Seen β (arms k) (arms' k)) → (a : Stance) → Own n β arms a → Own n β arms' a
+keep : (n : ℕ) (β : Bool) (arms arms' : ℕ → Stance) → ((k : ℕ) → NothingNew β (arms k) (arms' k)) → (a : Stance) → Own n β arms a → Own n β arms' a
 keep n β arms arms' seen a h = grind (arith, seen)
 
 -- a step of X1 that turns the group
-abbrev pub turns : Move → Stance → Bool
-turns step a = at_x1 a
-turns m a = false
+abbrev pub turns_group : Move → Stance → Bool
+turns_group step a = at_x1 a
+turns_group m a = false
 
-pub turn_same : (m : Move) (β : Bool) (a : Stance) → T (not (turns m a)) → turn m β a ≡ β
+pub turn_same : (m : Move) (β : Bool) (a : Stance) → T (not (turns_group m a)) → turn m β a ≡ β
 turn_same m β a d = grind arith
 
-pub act_own : (m : Move) (δ : Kind) (n : ℕ) (β : Bool) (arms : ℕ → Stance) → Ranged n arms → 1 ≤ n → (a : Stance) → T (not (turns m a)) → Own n β arms a → Own n β arms (act m δ n β arms a)
+pub act_own : (m : Move) (δ : Kind) (n : ℕ) (β : Bool) (arms : ℕ → Stance) → Ranged n arms → 1 ≤ n → (a : Stance) → T (not (turns_group m a)) → Own n β arms a → Own n β arms (act m δ n β arms a)
 act_own m δ n β arms range pos a d h = let x = step_own n β arms range δ pos a in grind arith
 
-pub changed_seen : (β : Bool) (arms : ℕ → Stance) (i : ℕ) (a : Stance) → Seen β (arms i) a → (k : ℕ) → Seen β (arms k) (changed arms i a k)
-changed_seen β arms i a h k t x = grind (arith, nat_tests)
+pub with_stance_nothing_new : (β : Bool) (arms : ℕ → Stance) (i : ℕ) (a : Stance) → NothingNew β (arms i) a → (k : ℕ) → NothingNew β (arms k) (with_stance arms i a k)
+with_stance_nothing_new β arms i a h k t x = grind (arith, nat_tests)
 
-pub changed_range : (n : ℕ) (arms : ℕ → Stance) (i : ℕ) (a : Stance) → 1 ≤ i → i ≤ n → Ranged n arms → Ranged n (changed arms i a)
-changed_range n arms i a lo hi range k t h = let r = range k t in grind (arith, nat_tests)
+pub with_stance_range : (n : ℕ) (arms : ℕ → Stance) (i : ℕ) (a : Stance) → 1 ≤ i → i ≤ n → Ranged n arms → Ranged n (with_stance arms i a)
+with_stance_range n arms i a lo hi range k t h = let r = range k t in grind (arith, nat_tests)
 
-pub changed_awake : (n : ℕ) (arms : ℕ → Stance) (i : ℕ) (a : Stance) → 1 ≤ i → i ≤ n → Awake n arms → Awake n (changed arms i a)
-changed_awake n arms i a lo hi awake k h = let r = awake k in grind (arith, nat_tests)
+pub with_stance_awake : (n : ℕ) (arms : ℕ → Stance) (i : ℕ) (a : Stance) → 1 ≤ i → i ≤ n → Awake n arms → Awake n (with_stance arms i a)
+with_stance_awake n arms i a lo hi awake k h = let r = awake k in grind (arith, nat_tests)
 
-wait_home : (δ : Kind) (n : ℕ) (β : Bool) (arms : ℕ → Stance) (i : ℕ) (s : Bool) (j : ℕ) (p : Place) → arms i ≡ waits s j p → Home i (waits s j p) → Home i (step_waiting δ n β (arms j) s j p)
+wait_home : (δ : Kind) (n : ℕ) (β : Bool) (arms : ℕ → Stance) (i : ℕ) (s : Bool) (j : ℕ) (p : WaitingPlace) → arms i ≡ waits s j p → Home i (waits s j p) → Home i (step_waiting δ n β (arms j) s j p)
 wait_home δ n β arms i s j W1 e h = grind arith
 wait_home δ n β arms i s j p e h = grind arith
 
@@ -109,19 +109,19 @@ act_home m δ n β arms i h = go m (arms i) refl h
     go step (waits s j p) e h = wait_home δ n β arms i s j p e h
     go m a e h = grind arith
 
-changed_home : (arms : ℕ → Stance) (i : ℕ) (a : Stance) → Home i a → ((k : ℕ) → Home k (arms k)) → (k : ℕ) → Home k (changed arms i a k)
-changed_home arms i a h old k = let x = old k in grind (arith, nat_tests)
+with_stance_home : (arms : ℕ → Stance) (i : ℕ) (a : Stance) → Home i a → ((k : ℕ) → Home k (arms k)) → (k : ℕ) → Home k (with_stance arms i a k)
+with_stance_home arms i a h old k = let x = old k in grind (arith, nat_tests)
 
-inv_still : (g : Machine) → Inv g → (m : Move) (i : ℕ) → 1 ≤ i → i ≤ g.n → T (not (turns m (g.arms i))) →
+inv_still : (g : Machine) → Inv g → (m : Move) (i : ℕ) → 1 ≤ i → i ≤ g.n → T (not (turns_group m (g.arms i))) →
     Inv (moved_to g g.group i (act m g.kind g.n g.group g.arms (g.arms i)))
 inv_still g inv m i lo hi d =
     let a' = act m g.kind g.n g.group g.arms (g.arms i) in
-    let arms' = changed g.arms i a' in
-    let seen = changed_seen g.group g.arms i a' (seen_act m g.kind g.n g.group g.arms (g.arms i)) in
+    let arms' = with_stance g.arms i a' in
+    let seen = with_stance_nothing_new g.group g.arms i a' (act_nothing_new m g.kind g.n g.group g.arms (g.arms i)) in
     record {
-      home = changed_home g.arms i a' (act_home m g.kind g.n g.group g.arms i (inv.home i)) inv.home;
-      awake = changed_awake g.n g.arms i a' lo hi inv.awake;
-      range = changed_range g.n g.arms i a' lo hi inv.range;
+      home = with_stance_home g.arms i a' (act_home m g.kind g.n g.group g.arms i (inv.home i)) inv.home;
+      awake = with_stance_awake g.n g.arms i a' lo hi inv.awake;
+      range = with_stance_range g.n g.arms i a' lo hi inv.range;
       own = λ k. by (Own g.n g.group arms') (eqb k i) a' (g.arms k)
           (λ e. keep g.n g.group g.arms arms' seen a' (act_own m g.kind g.n g.group g.arms inv.range (omega arith) (g.arms i) d (inv.own i)))
           (λ e. keep g.n g.group g.arms arms' seen (g.arms k) (inv.own k));
@@ -129,17 +129,17 @@ inv_still g inv m i lo hi d =
 
 module _ (n : ℕ) (β t : Bool) (arms : ℕ → Stance) (i : ℕ) (e : arms i ≡ x1 t) (free : Free β arms t) where
   -- x1 t and x2 t look the same to the others
-  look_back : (k : ℕ) (u : Bool) → T (has u (changed arms i (x2 t) k)) → T (has u (arms k)) × (T (choosing (changed arms i (x2 t) k)) → T (choosing (arms k)))
+  look_back : (k : ℕ) (u : Bool) → T (has u (with_stance arms i (x2 t) k)) → T (has u (arms k)) × (T (choosing (with_stance arms i (x2 t) k)) → T (choosing (arms k)))
   look_back k u = let r = eqb→eq k i in grind (arith, nat_tests)
 
-  turn_other : (k : ℕ) (a : Stance) → arms k ≡ a → Own n β arms a → Own n (not t) (changed arms i (x2 t)) a
+  turn_other : (k : ℕ) (a : Stance) → arms k ≡ a → Own n β arms a → Own n (not t) (with_stance arms i (x2 t)) a
   turn_other k (waits s j p) q h = (
     h.0,
     h.1,
     λ c b hb.
         let old = look_back b (not s) hb in
         let f = free k in
-        let c' : T (same β s) = grind arith in
+        let c' : T (same_bit β s) = grind arith in
         let r = h.2 c' b old.0 in
         grind arith,
   )
@@ -152,10 +152,10 @@ inv_turn : (g : Machine) → Inv g → (i : ℕ) (a : Stance) → g.arms i ≡ a
 inv_turn g inv i (x1 t) e x' lo hi =
     let free : Free g.group g.arms t = subst (λ y. Own g.n g.group g.arms y) e (inv.own i) in
     record {
-      home = changed_home g.arms i (x2 t) tt inv.home;
-      awake = changed_awake g.n g.arms i (x2 t) lo hi inv.awake;
-      range = changed_range g.n g.arms i (x2 t) lo hi inv.range;
-      own = λ k. by (Own g.n (not t) (changed g.arms i (x2 t))) (eqb k i) (x2 t) (g.arms k)
+      home = with_stance_home g.arms i (x2 t) tt inv.home;
+      awake = with_stance_awake g.n g.arms i (x2 t) lo hi inv.awake;
+      range = with_stance_range g.n g.arms i (x2 t) lo hi inv.range;
+      own = λ k. by (Own g.n (not t) (with_stance g.arms i (x2 t))) (eqb k i) (x2 t) (g.arms k)
           (λ q. same_refl (not t))
           (λ d. turn_other g.n g.group t g.arms i e free k (g.arms k) refl (inv.own k));
     }

@@ -1,18 +1,18 @@
--- The machine that a gate mirrors: what the registers say of an arm is part of the arm's own state.
+-- The machine that a gate simulates: what the registers say of an arm is part of the arm's own state.
 use Rattle.std.proofs.Common.{◌≡◌, ℕ, ◌+◌, ◌≤◌, Bool, true, false, cond, not, ◌&&◌, eqb, ltb, ◌≢◌, Some, None, Option, sym, subst, arith, eqb→eq}
 use Rattle.std.proofs.lemmas.Bool.Decides.{nat_tests}
-use Rattle.door.specs.Phases.{same_phase}
-use Rattle.door.specs.declared.phase.Phase.{Phase}
-use Rattle.door.specs.declared.phase.Phase.TheVariants as P
-use Rattle.door.proofs.Bools.{same, by}
-use Rattle.machine.specs.Kinds.{Kind, three_bits, four_valued, Place, W1, W2, W3, W4, W5, W6}
+use Rattle.gate_model.specs.Phases.{same_phase}
+use Rattle.gate_model.specs.declared.phase.Phase.{Phase}
+use Rattle.gate_model.specs.declared.phase.Phase.TheVariants as P
+use Rattle.gate_model.proofs.Bools.{same_bit, by}
+use Rattle.machine.specs.Kinds.{Kind, three_bits, four_valued, WaitingPlace, W1, W2, W3, W4, W5, W6}
 
 -- an arm: where it stands, its side, and what its mygroup register holds where that is not its side
 pub data Stance : Type 0 where
   idle d1 d2 : Bool → Stance
   d3 : Bool → Bool → Stance
   d4 d5 : Bool → Stance
-  waits : Bool → ℕ → Place → Stance
+  waits : Bool → ℕ → WaitingPlace → Stance
   inside : Bool → Bool → Stance
   x1 x2 : Bool → Stance
 
@@ -44,7 +44,7 @@ side (x2 s) = Some s
 side a = None
 
 abbrev pub is_side : Bool → Option Bool → Bool
-is_side t (Some s) = same t s
+is_side t (Some s) = same_bit t s
 is_side t None = false
 
 -- the arm has side t
@@ -86,43 +86,43 @@ flag a = false
 
 -- its one register at the four-valued door is 1 - s
 abbrev pub faces : Bool → Stance → Bool
-faces s (waits u j p) = same (not s) u
-faces s (inside u o) = same (not s) u
-faces s (x1 u) = same (not s) u
-faces s (x2 u) = same (not s) u
+faces s (waits u j p) = same_bit (not s) u
+faces s (inside u o) = same_bit (not s) u
+faces s (x1 u) = same_bit (not s) u
+faces s (x2 u) = same_bit (not s) u
 faces s a = false
 
 -- a waiting arm's step: β is the group, b the arm at its index
 abbrev pub next : ℕ → Bool → ℕ → Stance
 next n s j = cond (ltb j n) (waits s (j + 1) W1) (inside s false)
 
-abbrev pub step_waiting : Kind → ℕ → Bool → Stance → Bool → ℕ → Place → Stance
-step_waiting δ n β b s j W1 = cond (same β s) (waits s j W2) (inside s false)
+abbrev pub step_waiting : Kind → ℕ → Bool → Stance → Bool → ℕ → WaitingPlace → Stance
+step_waiting δ n β b s j W1 = cond (same_bit β s) (waits s j W2) (inside s false)
 step_waiting δ n β b s j W2 = cond (choosing b) (waits s j W2) (waits s j W3)
-step_waiting three_bits n β b s j W3 = cond (same (mygroup b) s) (next n s j) (waits s j W4)
+step_waiting three_bits n β b s j W3 = cond (same_bit (mygroup b) s) (next n s j) (waits s j W4)
 step_waiting three_bits n β b s j W4 = cond (flag b) (waits s j W5) (next n s j)
-step_waiting three_bits n β b s j W5 = cond (same β s) (waits s j W6) (next n s j)
-step_waiting three_bits n β b s j W6 = cond (same (mygroup b) s) (next n s j) (waits s j W4)
+step_waiting three_bits n β b s j W5 = cond (same_bit β s) (waits s j W6) (next n s j)
+step_waiting three_bits n β b s j W6 = cond (same_bit (mygroup b) s) (next n s j) (waits s j W4)
 step_waiting four_valued n β b s j W3 = cond (faces s b) (waits s j W4) (next n s j)
 step_waiting four_valued n β b s j W4 = cond (faces s b) (waits s j W5) (next n s j)
-step_waiting four_valued n β b s j W5 = cond (same β s) (waits s j W4) (next n s j)
+step_waiting four_valued n β b s j W5 = cond (same_bit β s) (waits s j W4) (next n s j)
 step_waiting four_valued n β b s j W6 = cond (faces s b) (waits s j W5) (next n s j)
 
 -- it waits on, or goes inside
-next_outcome : (P : Stance → Type 0) (n : ℕ) (s : Bool) → ((j : ℕ) (p : Place) → P (waits s j p)) → P (inside s false) → (j : ℕ) → P (next n s j)
+next_outcome : (P : Stance → Type 0) (n : ℕ) (s : Bool) → ((j : ℕ) (p : WaitingPlace) → P (waits s j p)) → P (inside s false) → (j : ℕ) → P (next n s j)
 next_outcome P n s on in' j = by P (ltb j n) (waits s (j + 1) W1) (inside s false) (λ _. on (j + 1) W1) (λ _. in')
 
-pub outcome : (P : Stance → Type 0) (δ : Kind) (n : ℕ) (β : Bool) (b : Stance) (s : Bool) → ((j : ℕ) (p : Place) → P (waits s j p)) → P (inside s false)
-    → (j : ℕ) (p : Place) → P (step_waiting δ n β b s j p)
-outcome P δ n β b s on in' j W1 = by P (same β s) (waits s j W2) (inside s false) (λ _. on j W2) (λ _. in')
+pub outcome : (P : Stance → Type 0) (δ : Kind) (n : ℕ) (β : Bool) (b : Stance) (s : Bool) → ((j : ℕ) (p : WaitingPlace) → P (waits s j p)) → P (inside s false)
+    → (j : ℕ) (p : WaitingPlace) → P (step_waiting δ n β b s j p)
+outcome P δ n β b s on in' j W1 = by P (same_bit β s) (waits s j W2) (inside s false) (λ _. on j W2) (λ _. in')
 outcome P δ n β b s on in' j W2 = by P (choosing b) (waits s j W2) (waits s j W3) (λ _. on j W2) (λ _. on j W3)
-outcome P three_bits n β b s on in' j W3 = by P (same (mygroup b) s) (next n s j) (waits s j W4) (λ _. next_outcome P n s on in' j) (λ _. on j W4)
+outcome P three_bits n β b s on in' j W3 = by P (same_bit (mygroup b) s) (next n s j) (waits s j W4) (λ _. next_outcome P n s on in' j) (λ _. on j W4)
 outcome P three_bits n β b s on in' j W4 = by P (flag b) (waits s j W5) (next n s j) (λ _. on j W5) (λ _. next_outcome P n s on in' j)
-outcome P three_bits n β b s on in' j W5 = by P (same β s) (waits s j W6) (next n s j) (λ _. on j W6) (λ _. next_outcome P n s on in' j)
-outcome P three_bits n β b s on in' j W6 = by P (same (mygroup b) s) (next n s j) (waits s j W4) (λ _. next_outcome P n s on in' j) (λ _. on j W4)
+outcome P three_bits n β b s on in' j W5 = by P (same_bit β s) (waits s j W6) (next n s j) (λ _. on j W6) (λ _. next_outcome P n s on in' j)
+outcome P three_bits n β b s on in' j W6 = by P (same_bit (mygroup b) s) (next n s j) (waits s j W4) (λ _. next_outcome P n s on in' j) (λ _. on j W4)
 outcome P four_valued n β b s on in' j W3 = by P (faces s b) (waits s j W4) (next n s j) (λ _. on j W4) (λ _. next_outcome P n s on in' j)
 outcome P four_valued n β b s on in' j W4 = by P (faces s b) (waits s j W5) (next n s j) (λ _. on j W5) (λ _. next_outcome P n s on in' j)
-outcome P four_valued n β b s on in' j W5 = by P (same β s) (waits s j W4) (next n s j) (λ _. on j W4) (λ _. next_outcome P n s on in' j)
+outcome P four_valued n β b s on in' j W5 = by P (same_bit β s) (waits s j W4) (next n s j) (λ _. on j W4) (λ _. next_outcome P n s on in' j)
 outcome P four_valued n β b s on in' j W6 = by P (faces s b) (waits s j W5) (next n s j) (λ _. on j W5) (λ _. next_outcome P n s on in' j)
 
 -- the second kind comes to d5 from d2; at d3 and d4, where it never is, it would go on as at d5
@@ -191,18 +191,18 @@ allowed admit a = at P.F a && not (out a)
 allowed leave a = out a
 
 -- a function changed at one place
-abbrev pub changed : (ℕ → Stance) → ℕ → Stance → ℕ → Stance
-changed f i a k = cond (eqb k i) a (f k)
+abbrev pub with_stance : (ℕ → Stance) → ℕ → Stance → ℕ → Stance
+with_stance f i a k = cond (eqb k i) a (f k)
 
-pub changed_same : (f : ℕ → Stance) (i : ℕ) (a : Stance) → changed f i a i ≡ a
-changed_same f i a = grind (arith, nat_tests)
+pub with_stance_same : (f : ℕ → Stance) (i : ℕ) (a : Stance) → with_stance f i a i ≡ a
+with_stance_same f i a = grind (arith, nat_tests)
 
-pub changed_other : (f : ℕ → Stance) (i : ℕ) (a : Stance) (k : ℕ) → k ≢ i → changed f i a k ≡ f k
-changed_other f i a k ne = grind (arith, nat_tests)
+pub with_stance_other : (f : ℕ → Stance) (i : ℕ) (a : Stance) (k : ℕ) → k ≢ i → with_stance f i a k ≡ f k
+with_stance_other f i a k ne = grind (arith, nat_tests)
 
 -- a number told of each arm is no more than another one was, if it is so at that place and elsewhere
-pub changed_le : (t u : Stance → ℕ) (f : ℕ → Stance) (i : ℕ) (a : Stance) → t a ≤ u (f i) → ((k : ℕ) → t (f k) ≤ u (f k)) → (k : ℕ) → t (changed f i a k) ≤ u (f k)
-changed_le t u f i a here there k = by (λ x. t x ≤ u (f k)) (eqb k i) a (f k) (λ q. subst (λ y. t a ≤ u (f y)) (sym (eqb→eq k i q)) here) (λ q. there k)
+pub with_stance_le : (t u : Stance → ℕ) (f : ℕ → Stance) (i : ℕ) (a : Stance) → t a ≤ u (f i) → ((k : ℕ) → t (f k) ≤ u (f k)) → (k : ℕ) → t (with_stance f i a k) ≤ u (f k)
+with_stance_le t u f i a here there k = by (λ x. t x ≤ u (f k)) (eqb k i) a (f k) (λ q. subst (λ y. t a ≤ u (f y)) (sym (eqb→eq k i q)) here) (λ q. there k)
 
 -- the kind of door, how many arms, the group, the arms (from 1)
 pub record Machine : Type 0 where
@@ -212,7 +212,7 @@ pub record Machine : Type 0 where
   pub arms : ℕ → Stance
 
 abbrev pub moved_to : Machine → Bool → ℕ → Stance → Machine
-moved_to g b i a = record { kind = g.kind; n = g.n; group = b; arms = changed g.arms i a }
+moved_to g b i a = record { kind = g.kind; n = g.n; group = b; arms = with_stance g.arms i a }
 
 abbrev pub moved : Machine → Move → ℕ → Machine
 moved g m i = moved_to g (turn m g.group (g.arms i)) i (act m g.kind g.n g.group g.arms (g.arms i))

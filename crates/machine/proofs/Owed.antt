@@ -1,10 +1,10 @@
 -- What a round owes: a move that lowers the waiting arm's potential, or, where arms with the other side stop it, a move for each of these, so that each has less to do.
 use Rattle.std.proofs.Common.{◌≡◌, ℕ, ◌+◌, ◌-◌, ◌≤◌, Bool, true, false, cond, not, ◌||◌, T, eqb, ◌≢◌, ◌⊎◌, sym, refl, ap, ◌∙◌, subst, inl, inr, ⊎_elim, arith, eqb→eq}
 use Rattle.std.proofs.lemmas.Bool.{cases_eq}
-use Rattle.door.specs.declared.phase.Phase.TheVariants as P
-use Rattle.door.proofs.Bools.{same, test, clash, differ, T_or_left, T_or_right, by}
-use Rattle.machine.specs.Kinds.{Kind, Place, W2}
-use Rattle.machine.proofs.Machine.{Stance, waits, at, has, choosing, Move, step, act, allowed, changed_same, changed_other, changed_le, Machine, moved}
+use Rattle.gate_model.specs.declared.phase.Phase.TheVariants as P
+use Rattle.gate_model.proofs.Bools.{same_bit, test, clash, differ, T_or_left, T_or_right, by}
+use Rattle.machine.specs.Kinds.{Kind, WaitingPlace, W2}
+use Rattle.machine.proofs.Machine.{Stance, waits, at, has, choosing, Move, step, act, allowed, with_stance_same, with_stance_other, with_stance_le, Machine, moved}
 use Rattle.machine.proofs.Invariant.{Free, Inv}
 use Rattle.machine.proofs.Waiting.{Waiting, Entry, only_steps, has_awake, find, move_out}
 use Rattle.machine.proofs.Potential.{queue, held, queue_act, queue_chooses, potential, foe, foe_act, foe_look, foe_bound, foe_some, foe_none, foe_held, most}
@@ -44,61 +44,61 @@ module _ (g : Machine) (m : Move) (i : ℕ) (due due' : ℕ → Type 0) (on : (b
           (λ h.
           let y = held_by (moved g m i).arms (g.arms b) h in
           ⊎_elim
-          (λ z. frees ne y.0 (subst (λ c. g.arms b ≡ waits y.0 c W2) z y.2) (T_or_right _ _ (subst (λ a. T (choosing a)) (ap (moved g m i).arms z ∙ changed_same g.arms i _) y.3)))
-          (λ nc. absurd (clash (choosing (g.arms y.1)) (subst (λ a. T (choosing a)) (changed_other g.arms i _ y.1 nc) y.3) (subst (λ a. T (not (held g.arms a))) y.2 d)))
+          (λ z. frees ne y.0 (subst (λ c. g.arms b ≡ waits y.0 c W2) z y.2) (T_or_right _ _ (subst (λ a. T (choosing a)) (ap (moved g m i).arms z ∙ with_stance_same g.arms i _) y.3)))
+          (λ nc. absurd (clash (choosing (g.arms y.1)) (subst (λ a. T (choosing a)) (with_stance_other g.arms i _ y.1 nc) y.3) (subst (λ a. T (not (held g.arms a))) y.2 d)))
           (cases_eq y.1 i))
-          (λ d'. still (own (subst (λ a. T (not (held (moved g m i).arms a))) (sym (changed_other g.arms i _ b ne)) d') (on b ne x)))
+          (λ d'. still (own (subst (λ a. T (not (held (moved g m i).arms a))) (sym (with_stance_other g.arms i _ b ne)) d') (on b ne x)))
           (test (held (moved g m i).arms (g.arms b)))
   went b (other u c q h x) = ⊎_elim
       (λ z. frees (λ t. apart g.arms b c u q h (t ∙ sym z)) u (subst (λ y. g.arms b ≡ waits u y W2) z q) (T_or_left _ _ (subst (λ y. T (choosing (g.arms y))) z h)))
       (λ ne. still (other u c
       (by (λ a. a ≡ waits u c W2) (eqb b i) _ (g.arms b) (λ t. held_stays m g.kind g.n g.group g.arms (g.arms i) u c (subst (λ y. g.arms y ≡ waits u c W2) (eqb→eq b i t) q) h) (λ t. q))
-      (subst (λ a. T (choosing a)) (sym (changed_other g.arms i _ c ne)) h) (on c ne x)))
+      (subst (λ a. T (choosing a)) (sym (with_stance_other g.arms i _ c ne)) h) (on c ne x)))
       (cases_eq c i)
 
 -- while the group is s, no arm with the other side has more than M to do
 abbrev pub Below : Machine → Bool → ℕ → Type 0
-Below g s M = T (same g.group s) → (k : ℕ) → foe g.kind s g.arms (g.arms k) ≤ M
+Below g s M = T (same_bit g.group s) → (k : ℕ) → foe g.kind s g.arms (g.arms k) ≤ M
 
 -- what a round owes: that each arm with the other side has less than M to do, or w itself a move, where none stops it
 pub data Due (g : Machine) (w : ℕ) (s : Bool) (M : ℕ) (due : ℕ → Type 0) : Type 0 where
-  foes : 1 ≤ M → (T (same g.group s) → (k : ℕ) → (foe g.kind s g.arms (g.arms k) + 1 ≤ M) ⊎ Owed g.arms due k) → Due g w s M due
+  foes : 1 ≤ M → (T (same_bit g.group s) → (k : ℕ) → (foe g.kind s g.arms (g.arms k) + 1 ≤ M) ⊎ Owed g.arms due k) → Due g w s M due
   self : Free g.group g.arms s → Owed g.arms due w → Due g w s M due
 
-same_index : (s u : Bool) (j i : ℕ) (p q : Place) → waits s j p ≡ waits u i q → (j ≡ i) × (p ≡ q)
+same_index : (s u : Bool) (j i : ℕ) (p q : WaitingPlace) → waits s j p ≡ waits u i q → (j ≡ i) × (p ≡ q)
 same_index s u j i p q e = grind arith
 
-module _ (g : Machine) (inv : Inv g) (w : ℕ) (s : Bool) (j : ℕ) (p : Place) (e : g.arms w ≡ waits s j p) where
-  module _ (m : Move) (i : ℕ) (q : T (same (moved g m i).group s)) where
+module _ (g : Machine) (inv : Inv g) (w : ℕ) (s : Bool) (j : ℕ) (p : WaitingPlace) (e : g.arms w ≡ waits s j p) where
+  module _ (m : Move) (i : ℕ) (q : T (same_bit (moved g m i).group s)) where
     abbrev new : ℕ → Stance
     new = (moved g m i).arms
 
     -- the group was s already
-    was : T (same g.group s)
+    was : T (same_bit g.group s)
     was = away g inv w s j p e m i q
 
     queues : (k : ℕ) → queue g.kind s (new k) ≤ queue g.kind s (g.arms k)
-    queues = changed_le (queue g.kind s) (queue g.kind s) g.arms i _ (queue_act g.kind g.n g.group g.arms s m (g.arms i) (fit g inv w s j p e i) q) (λ k. omega arith)
+    queues = with_stance_le (queue g.kind s) (queue g.kind s) g.arms i _ (queue_act g.kind g.n g.group g.arms s m (g.arms i) (fit g inv w s j p e i) q) (λ k. omega arith)
 
     -- the mover's own, and no arm's rises
     foe_mover : (c : Bool) → (T c → T (allowed m (g.arms i)) × T (not (held g.arms (g.arms i)))) → foe g.kind s new (new i) ≤ foe g.kind s g.arms (g.arms i) - cond c 1 0
     foe_mover c h =
         let x = foe_act g.kind g.n g.group g.arms s was c m (g.arms i) h in
         let y = foe_look g.kind s g.arms new queues (new i) in
-        let z = ap (foe g.kind s g.arms) (changed_same g.arms i (act m g.kind g.n g.group g.arms (g.arms i))) in
+        let z = ap (foe g.kind s g.arms) (with_stance_same g.arms i (act m g.kind g.n g.group g.arms (g.arms i))) in
         omega arith
 
     foe_after : (k : ℕ) → foe g.kind s new (new k) ≤ foe g.kind s g.arms (g.arms k)
     foe_after k = ⊎_elim
         (λ t. subst (λ y. foe g.kind s new (new y) ≤ foe g.kind s g.arms (g.arms y)) (sym t) (let x = foe_mover false (λ x. absurd x) in omega arith))
-        (λ ne. subst (λ a. foe g.kind s new a ≤ foe g.kind s g.arms (g.arms k)) (sym (changed_other g.arms i _ k ne)) (foe_look g.kind s g.arms new queues (g.arms k)))
+        (λ ne. subst (λ a. foe g.kind s new a ≤ foe g.kind s g.arms (g.arms k)) (sym (with_stance_other g.arms i _ k ne)) (foe_look g.kind s g.arms new queues (g.arms k)))
         (cases_eq k i)
 
   -- the bound holds on
   pub below_moved : (m : Move) (i M : ℕ) → Below g s M → Below (moved g m i) s M
   below_moved m i M below q k = let x = below (was m i q) k in let y = foe_after m i q k in omega arith
 
-  own_move : (m : Move) (i : ℕ) → i ≡ w → T (allowed m (g.arms i)) → (k : Bool) → (T k → T (not (held g.arms (g.arms i)))) → (T k → T (same g.group s) → T (not (has (not s) (g.arms j)))) → potential s (moved g m i) w + cond k 1 0 ≤ potential s g w
+  own_move : (m : Move) (i : ℕ) → i ≡ w → T (allowed m (g.arms i)) → (k : Bool) → (T k → T (not (held g.arms (g.arms i)))) → (T k → T (same_bit g.group s) → T (not (has (not s) (g.arms j)))) → potential s (moved g m i) w + cond k 1 0 ≤ potential s g w
   own_move m i z l k c free =
       let is : g.arms i ≡ waits s j p = ap g.arms z ∙ e in
       subst (λ m'. potential s (moved g m' i) w + cond k 1 0 ≤ potential s g w) (sym (only_steps m s j p (subst (λ y. T (allowed m y)) is l)))
@@ -116,11 +116,11 @@ module _ (g : Machine) (inv : Inv g) (w : ℕ) (s : Bool) (j : ℕ) (p : Place) 
       Due g w s M due → (potential s (moved g m i) w + 1 ≤ potential s g w) ⊎ Due (moved g m i) w s M due'
   due_moves m i k M below due due' on (foes one f) = inr (foes one (λ q b. ⊎_elim (λ l. inl (let x = foe_after m i q b in omega arith)) (λ x. less q b (went g m i due due' on b x)) (f (was m i q) b)))
     where
-      less : (q : T (same (moved g m i).group s)) → (b : ℕ) → Went g m i due' b → (foe g.kind s (moved g m i).arms ((moved g m i).arms b) + 1 ≤ M) ⊎ Owed (moved g m i).arms due' b
+      less : (q : T (same_bit (moved g m i).group s)) → (b : ℕ) → Went g m i due' b → (foe g.kind s (moved g m i).arms ((moved g m i).arms b) + 1 ≤ M) ⊎ Owed (moved g m i).arms due' b
       less q b (mine z d) = inl (subst (λ y. foe g.kind s (moved g m i).arms ((moved g m i).arms y) + 1 ≤ M) (sym z)
           (let x = foe_mover m i q true (λ t. (k, d)) in let y = below (was m i q) i in omega arith))
-      less q b (frees ne u h c) = inl (subst (λ a. foe g.kind s (moved g m i).arms a + 1 ≤ M) (sym (changed_other g.arms i _ b ne ∙ h))
-          (let x = foe_held g.kind s g.arms (moved g m i).arms u i (subst (λ a. queue g.kind s a + 1 ≤ queue g.kind s (g.arms i)) (sym (changed_same g.arms i _)) (queue_chooses g.kind g.n g.group g.arms s m (g.arms i) (was m i q) k c)) in
+      less q b (frees ne u h c) = inl (subst (λ a. foe g.kind s (moved g m i).arms a + 1 ≤ M) (sym (with_stance_other g.arms i _ b ne ∙ h))
+          (let x = foe_held g.kind s g.arms (moved g m i).arms u i (subst (λ a. queue g.kind s a + 1 ≤ queue g.kind s (g.arms i)) (sym (with_stance_same g.arms i _)) (queue_chooses g.kind g.n g.group g.arms s m (g.arms i) (was m i q) k c)) in
           let y = subst (λ a. foe g.kind s g.arms a ≤ M) h (below (was m i q) b) in omega arith))
       less q b (still o) = inr o
   due_moves m i k M below due due' on (self free x) = go (went g m i due due' on w x)
@@ -140,7 +140,7 @@ module _ (g : Machine) (inv : Inv g) (w : ℕ) (s : Bool) (j : ℕ) (p : Place) 
   due_exists M below due moves = ⊎_elim
       (λ q. ⊎_elim (λ x. some x.0 x.3 (below q x.0)) (λ none. alone (λ k h. let r = inv.range k (not s) h in absurd (clash (has (not s) (g.arms k)) h (none k r.0 r.1)))) (find (λ k. has (not s) (g.arms k)) g.n))
       (λ d. alone (λ k h. differ g.group s d))
-      (test (same g.group s))
+      (test (same_bit g.group s))
     where
       awake : (b : ℕ) → T (not (at P.I (g.arms b))) → due b
       awake b a = let r = inv.awake b a in moves b r.0 r.1 a

@@ -1,37 +1,37 @@
 -- For how many rounds a waiting arm waits at most: its potential, while no arm with the other side holds it up; and what such an arm still has to do.
 use Rattle.std.proofs.Common.{◌≡◌, ℕ, ◌+◌, ◌-◌, ◌*◌, ◌≤◌, Bool, true, false, cond, not, ◌||◌, T, eqb, ltb, sym, subst, arith}
 use Rattle.std.proofs.lemmas.Bool.Decides.{nat_tests}
-use Rattle.door.proofs.Bools.{same, by}
-use Rattle.machine.specs.Kinds.{Kind, three_bits, four_valued, Place, W1, W2, W3, W4, W5, W6}
+use Rattle.gate_model.proofs.Bools.{same_bit, by}
+use Rattle.machine.specs.Kinds.{Kind, three_bits, four_valued, WaitingPlace, W1, W2, W3, W4, W5, W6}
 use Rattle.machine.proofs.Machine.{Stance, d2, d3, d4, d5, waits, inside, x1, x2, has, choosing, flag, next, step_waiting, outcome, Move, step, act, turn, allowed, Machine}
 
 -- how many moves an arm that chooses still needs until it does not, and at most if it comes to choose
-abbrev pub left : Kind → Stance → ℕ
-left three_bits (d2 g) = 4
-left three_bits (d3 u g) = 3
-left three_bits (d4 u) = 2
-left three_bits (d5 u) = 1
-left four_valued (d2 g) = 2
-left four_valued (d3 u g) = 1
-left four_valued (d4 u) = 1
-left four_valued (d5 u) = 1
-left δ a = 0
+abbrev pub choosing_left : Kind → Stance → ℕ
+choosing_left three_bits (d2 g) = 4
+choosing_left three_bits (d3 u g) = 3
+choosing_left three_bits (d4 u) = 2
+choosing_left three_bits (d5 u) = 1
+choosing_left four_valued (d2 g) = 2
+choosing_left four_valued (d3 u g) = 1
+choosing_left four_valued (d4 u) = 1
+choosing_left four_valued (d5 u) = 1
+choosing_left δ a = 0
 
 abbrev pub whole : Kind → ℕ
 whole three_bits = 5
 whole four_valued = 3
 
 -- while the group is β, an arm that has this side does not come to choose again
-abbrev pub again : Bool → Stance → Bool
-again β (d2 g) = false
-again β a = not (has β a)
+abbrev pub may_choose_again : Bool → Stance → Bool
+may_choose_again β (d2 g) = false
+may_choose_again β a = not (has β a)
 
 -- so for how many rounds at most an arm holds up those that look at it from W2
 abbrev pub queue : Kind → Bool → Stance → ℕ
-queue δ β a = left δ a + cond (again β a) (whole δ) 0
+queue δ β a = choosing_left δ a + cond (may_choose_again β a) (whole δ) 0
 
 -- a waiting arm at a place, where the arm at its index holds it up for h rounds: for how many rounds at most, while the group is not its side
-abbrev pub quick : ℕ → Place → ℕ
+abbrev pub quick : ℕ → WaitingPlace → ℕ
 quick h W1 = 1
 quick h W2 = 5 + h
 quick h W3 = 4
@@ -44,7 +44,7 @@ quick_of δ β arms (waits u j p) = quick (queue δ β (arms j)) p
 quick_of δ β arms a = 0
 
 -- and while it is its side s, for that index; o, the index is its own
-abbrev pub slow : Kind → Bool → Bool → Stance → Place → ℕ
+abbrev pub slow : Kind → Bool → Bool → Stance → WaitingPlace → ℕ
 slow three_bits s o a W1 = cond o 3 8
 slow three_bits s o a W2 = 2 + cond (has (not s) a) 5 (queue three_bits s a)
 slow three_bits s o a W3 = cond (has (not s) a) 5 (cond (flag a) 1 4)
@@ -57,13 +57,13 @@ slow four_valued s o a W5 = 2
 slow four_valued s o a p = cond (has (not s) a) 2 1
 
 -- what the indices past j take, of n, for arm w
-abbrev pub ahead : Kind → ℕ → ℕ → ℕ → ℕ
-ahead three_bits n w j = cond (ltb j w) (8 * (n - (j + 1)) + 11) (8 * (n - j) + 8)
-ahead four_valued n w j = cond (ltb j w) (6 * (n - (j + 1)) + 9) (6 * (n - j) + 6)
+abbrev pub indices_ahead : Kind → ℕ → ℕ → ℕ → ℕ
+indices_ahead three_bits n w j = cond (ltb j w) (8 * (n - (j + 1)) + 11) (8 * (n - j) + 8)
+indices_ahead four_valued n w j = cond (ltb j w) (6 * (n - (j + 1)) + 9) (6 * (n - j) + 6)
 
 -- for how many rounds a waiting arm waits at most while no arm has the other side: e, the group is its side
-abbrev pub rank : Kind → Bool → ℕ → ℕ → Bool → Stance → ℕ → Place → ℕ
-rank δ true n w s a j p = ahead δ n w j + slow δ s (eqb j w) a p
+abbrev pub rank : Kind → Bool → ℕ → ℕ → Bool → Stance → ℕ → WaitingPlace → ℕ
+rank δ true n w s a j p = indices_ahead δ n w j + slow δ s (eqb j w) a p
 rank δ false n w s a j p = quick (queue δ (not s) a) p
 
 abbrev pub rank_of : Kind → Bool → ℕ → ℕ → Bool → (ℕ → Stance) → Stance → ℕ
@@ -72,7 +72,7 @@ rank_of δ true n w s arms a = 0
 rank_of δ false n w s arms a = quick_of δ (not s) arms a
 
 abbrev pub potential : Bool → Machine → ℕ → ℕ
-potential s g w = rank_of g.kind (same g.group s) g.n w s g.arms (g.arms w)
+potential s g w = rank_of g.kind (same_bit g.group s) g.n w s g.arms (g.arms w)
 
 -- what an arm with the other side than s still has to do until it is idle, while the group is s
 abbrev pub cost : Kind → Bool → (ℕ → Stance) → Stance → ℕ
@@ -95,102 +95,102 @@ held arms a = false
 
 -- what the invariant says of another arm while an arm with side s waits
 abbrev pub Fit : Bool → Bool → Stance → Type 0
-Fit β s (x1 u) = T (same (not u) s) → T (same β (not u))
-Fit β s (x2 u) = T (same β (not u))
+Fit β s (x1 u) = T (same_bit (not u) s) → T (same_bit β (not u))
+Fit β s (x2 u) = T (same_bit β (not u))
 Fit β s a = Unit {0}
 
 -- the group turns only away from the waiting arm's side
-pub turn_away : (m : Move) (β s : Bool) (a : Stance) → Fit β s a → T (same (turn m β a) s) → T (same β s)
+pub turn_away : (m : Move) (β s : Bool) (a : Stance) → Fit β s a → T (same_bit (turn m β a) s) → T (same_bit β s)
 turn_away m β s a f h = grind arith
 
 -- of an arm that moves: it holds the others up no longer than before, and less long if it chooses before or after
 module _ (δ : Kind) (n : ℕ) (β : Bool) (arms : ℕ → Stance) (s : Bool) where
-  queue_waits : (b : Stance) (γ u : Bool) (j : ℕ) (p : Place) → queue δ γ (step_waiting δ n β b u j p) ≤ queue δ γ (waits u j p)
+  queue_waits : (b : Stance) (γ u : Bool) (j : ℕ) (p : WaitingPlace) → queue δ γ (step_waiting δ n β b u j p) ≤ queue δ γ (waits u j p)
   queue_waits b γ u j p = outcome (λ r. queue δ γ r ≤ queue δ γ (waits u j p)) δ n β b u (λ j p. grind arith) (grind arith) j p
 
-  never_chooses : (b : Stance) (u : Bool) (j : ℕ) (p : Place) → T (choosing (step_waiting δ n β b u j p)) → ⊥
+  never_chooses : (b : Stance) (u : Bool) (j : ℕ) (p : WaitingPlace) → T (choosing (step_waiting δ n β b u j p)) → ⊥
   never_chooses b u = outcome (λ r. T (choosing r) → ⊥) δ n β b u (λ j p x. x) (λ x. x)
 
-  pub queue_act : (m : Move) (a : Stance) → Fit β s a → T (same (turn m β a) s) → queue δ s (act m δ n β arms a) ≤ queue δ s a
+  pub queue_act : (m : Move) (a : Stance) → Fit β s a → T (same_bit (turn m β a) s) → queue δ s (act m δ n β arms a) ≤ queue δ s a
   queue_act step (waits u j p) f q = queue_waits (arms j) s u j p
   queue_act m a f q = grind arith
 
-  pub queue_chooses : (m : Move) (a : Stance) → T (same β s) → T (allowed m a) → T (choosing a || choosing (act m δ n β arms a)) → queue δ s (act m δ n β arms a) + 1 ≤ queue δ s a
+  pub queue_chooses : (m : Move) (a : Stance) → T (same_bit β s) → T (allowed m a) → T (choosing a || choosing (act m δ n β arms a)) → queue δ s (act m δ n β arms a) + 1 ≤ queue δ s a
   queue_chooses step (waits u j p) q k c = absurd (never_chooses (arms j) u j p c)
   queue_chooses m a q k c = grind arith
 
   -- so the rank of an arm that looks at it
-  pub rank_waits : (b : Stance) (e : Bool) (w : ℕ) (u : Bool) (j i : ℕ) (p p' : Place) → rank δ e n w s (step_waiting δ n β b u j p) i p' ≤ rank δ e n w s (waits u j p) i p'
+  pub rank_waits : (b : Stance) (e : Bool) (w : ℕ) (u : Bool) (j i : ℕ) (p p' : WaitingPlace) → rank δ e n w s (step_waiting δ n β b u j p) i p' ≤ rank δ e n w s (waits u j p) i p'
   rank_waits b e w u j i p p' = outcome (λ r. rank δ e n w s r i p' ≤ rank δ e n w s (waits u j p) i p') δ n β b u (λ j p. grind arith) (grind arith) j p
 
-  pub rank_act : (w : ℕ) (m : Move) (a : Stance) (i : ℕ) (p : Place) → Fit β s a → (T (same (turn m β a) s) → T (same β s)) → rank δ (same (turn m β a) s) n w s (act m δ n β arms a) i p ≤ rank δ (same β s) n w s a i p
-  rank_act w step (waits u j p') i p f q = rank_waits (arms j) (same β s) w u j i p' p
+  pub rank_act : (w : ℕ) (m : Move) (a : Stance) (i : ℕ) (p : WaitingPlace) → Fit β s a → (T (same_bit (turn m β a) s) → T (same_bit β s)) → rank δ (same_bit (turn m β a) s) n w s (act m δ n β arms a) i p ≤ rank δ (same_bit β s) n w s a i p
+  rank_act w step (waits u j p') i p f q = rank_waits (arms j) (same_bit β s) w u j i p' p
   rank_act w m a i p f q = grind arith
 
-  pub rank_chooses : (w : ℕ) (m : Move) (a : Stance) (i : ℕ) → Fit β s a → (T (same β s) → T (not (has (not s) a))) → T (allowed m a) → T (choosing a || choosing (act m δ n β arms a)) →
-      rank δ (same (turn m β a) s) n w s (act m δ n β arms a) i W2 + 1 ≤ rank δ (same β s) n w s a i W2
+  pub rank_chooses : (w : ℕ) (m : Move) (a : Stance) (i : ℕ) → Fit β s a → (T (same_bit β s) → T (not (has (not s) a))) → T (allowed m a) → T (choosing a || choosing (act m δ n β arms a)) →
+      rank δ (same_bit (turn m β a) s) n w s (act m δ n β arms a) i W2 + 1 ≤ rank δ (same_bit β s) n w s a i W2
   rank_chooses w step (waits u j p) i f free k c = absurd (never_chooses (arms j) u j p c)
   rank_chooses w m a i f free k c = grind arith
 
 -- as the group turns
-pub rank_turns : (δ : Kind) (e e' : Bool) (n w : ℕ) (s : Bool) (a : Stance) (j : ℕ) (p : Place) → (T e' → T e) → rank δ e' n w s a j p ≤ rank δ e n w s a j p
+pub rank_turns : (δ : Kind) (e e' : Bool) (n w : ℕ) (s : Bool) (a : Stance) (j : ℕ) (p : WaitingPlace) → (T e' → T e) → rank δ e' n w s a j p ≤ rank δ e n w s a j p
 rank_turns δ e e' n w s a j p f = grind arith
 
 -- a waiting arm's own step; k, it is not held up
 module _ (δ : Kind) (n : ℕ) (β : Bool) (arms : ℕ → Stance) (u : Bool) (j : ℕ) where
-  abbrev after : Place → Stance
+  abbrev after : WaitingPlace → Stance
   after p = step_waiting δ n β (arms j) u j p
 
   quick_next : (γ : Bool) → quick_of δ γ arms (next n u j) ≤ 1
   quick_next γ = grind arith
 
   -- the group is not its side: its number falls
-  pub quick_step : (γ k : Bool) (p : Place) → T (not (same β u)) → (T k → T (not (held arms (waits u j p)))) → quick_of δ γ arms (after p) + cond k 1 0 ≤ quick (queue δ γ (arms j)) p
+  pub quick_step : (γ k : Bool) (p : WaitingPlace) → T (not (same_bit β u)) → (T k → T (not (held arms (waits u j p)))) → quick_of δ γ arms (after p) + cond k 1 0 ≤ quick (queue δ γ (arms j)) p
   quick_step γ k W1 d c = grind arith
   quick_step γ k W2 d c = grind arith
   quick_step γ k p d c = let x = quick_next γ in grind arith
 
-  ahead_next : (w : ℕ) → w ≤ n → T (ltb j n) → ahead δ n w (j + 1) + slow δ u (eqb (j + 1) w) (arms (j + 1)) W1 ≤ ahead δ n w j
+  ahead_next : (w : ℕ) → w ≤ n → T (ltb j n) → indices_ahead δ n w (j + 1) + slow δ u (eqb (j + 1) w) (arms (j + 1)) W1 ≤ indices_ahead δ n w j
   ahead_next w hi l = grind (arith, nat_tests)
 
-  slow_next : (w : ℕ) → w ≤ n → rank_of δ true n w u arms (next n u j) ≤ ahead δ n w j
-  slow_next w hi = by (λ r. rank_of δ true n w u arms r ≤ ahead δ n w j) (ltb j n) (waits u (j + 1) W1) (inside u false) (ahead_next w hi) (λ x. omega arith)
+  slow_next : (w : ℕ) → w ≤ n → rank_of δ true n w u arms (next n u j) ≤ indices_ahead δ n w j
+  slow_next w hi = by (λ r. rank_of δ true n w u arms r ≤ indices_ahead δ n w j) (ltb j n) (waits u (j + 1) W1) (inside u false) (ahead_next w hi) (λ x. omega arith)
 
   -- the group is its side: its rank does not rise, and falls if k, where the arm at its index does not have the other side
-  pub slow_step : (w : ℕ) (k : Bool) (p : Place) → w ≤ n → T (same β u) → (T (eqb j w) → T (has u (arms j)) × T (not (choosing (arms j)))) → (T k → T (not (held arms (waits u j p)))) → (T k → T (not (has (not u) (arms j)))) →
+  pub slow_step : (w : ℕ) (k : Bool) (p : WaitingPlace) → w ≤ n → T (same_bit β u) → (T (eqb j w) → T (has u (arms j)) × T (not (choosing (arms j)))) → (T k → T (not (held arms (waits u j p)))) → (T k → T (not (has (not u) (arms j)))) →
       rank_of δ true n w u arms (after p) + cond k 1 0 ≤ rank δ true n w u (arms j) j p
   slow_step w k W1 hi q own c free = grind arith
   slow_step w k W2 hi q own c free = grind arith
   slow_step w k p hi q own c free = let x = slow_next w hi in grind arith
 
   -- in either case
-  pub own_step : (w : ℕ) (k : Bool) (p : Place) → w ≤ n → (T (eqb j w) → T (has u (arms j)) × T (not (choosing (arms j)))) → (T k → T (not (held arms (waits u j p)))) → (T k → T (same β u) → T (not (has (not u) (arms j)))) →
-      (e : Bool) → same β u ≡ e → rank_of δ e n w u arms (after p) + cond k 1 0 ≤ rank δ e n w u (arms j) j p
-  own_step w k p hi own c free true q = let t : T (same β u) = subst T (sym q) tt in slow_step w k p hi t own c (λ x. free x t)
+  pub own_step : (w : ℕ) (k : Bool) (p : WaitingPlace) → w ≤ n → (T (eqb j w) → T (has u (arms j)) × T (not (choosing (arms j)))) → (T k → T (not (held arms (waits u j p)))) → (T k → T (same_bit β u) → T (not (has (not u) (arms j)))) →
+      (e : Bool) → same_bit β u ≡ e → rank_of δ e n w u arms (after p) + cond k 1 0 ≤ rank δ e n w u (arms j) j p
+  own_step w k p hi own c free true q = let t : T (same_bit β u) = subst T (sym q) tt in slow_step w k p hi t own c (λ x. free x t)
   own_step w k p hi own c free false q = quick_step (not u) k p (subst (λ b. T (not b)) (sym q) tt) c
 
 -- what an arm with the other side still has to do: no more than before, and less after its move if it was not held up
-module _ (δ : Kind) (n : ℕ) (β : Bool) (arms : ℕ → Stance) (s : Bool) (q : T (same β s)) where
-  foe_waits : (u : Bool) (j : ℕ) (p : Place) → foe δ s arms (step_waiting δ n β (arms j) u j p) ≤ cond (same (not s) u) (4 + quick_of δ s arms (step_waiting δ n β (arms j) u j p)) 0
-  foe_waits u j p = outcome (λ r. foe δ s arms r ≤ cond (same (not s) u) (4 + quick_of δ s arms r) 0) δ n β (arms j) u (λ j p. omega arith) (omega arith) j p
+module _ (δ : Kind) (n : ℕ) (β : Bool) (arms : ℕ → Stance) (s : Bool) (q : T (same_bit β s)) where
+  foe_waits : (u : Bool) (j : ℕ) (p : WaitingPlace) → foe δ s arms (step_waiting δ n β (arms j) u j p) ≤ cond (same_bit (not s) u) (4 + quick_of δ s arms (step_waiting δ n β (arms j) u j p)) 0
+  foe_waits u j p = outcome (λ r. foe δ s arms r ≤ cond (same_bit (not s) u) (4 + quick_of δ s arms r) 0) δ n β (arms j) u (λ j p. omega arith) (omega arith) j p
 
   pub foe_act : (k : Bool) (m : Move) (a : Stance) → (T k → T (allowed m a) × T (not (held arms a))) → foe δ s arms (act m δ n β arms a) ≤ foe δ s arms a - cond k 1 0
   foe_act k step (waits u j p) c = let x = foe_waits u j p in let y = quick_step δ n β arms u j s k p in grind arith
   foe_act k m a c = grind arith
 
 -- as the others move
-looks_on : (c : Bool) (h h' : ℕ) (p : Place) → h ≤ h' → cond c (4 + quick h p) 0 ≤ cond c (4 + quick h' p) 0
+looks_on : (c : Bool) (h h' : ℕ) (p : WaitingPlace) → h ≤ h' → cond c (4 + quick h p) 0 ≤ cond c (4 + quick h' p) 0
 looks_on c h h' p l = grind arith
 
 pub foe_look : (δ : Kind) (s : Bool) (arms arms' : ℕ → Stance) → ((k : ℕ) → queue δ s (arms' k) ≤ queue δ s (arms k)) → (a : Stance) → foe δ s arms' a ≤ foe δ s arms a
-foe_look δ s arms arms' h (waits u j p) = looks_on (same (not s) u) _ _ p (h j)
+foe_look δ s arms arms' h (waits u j p) = looks_on (same_bit (not s) u) _ _ p (h j)
 foe_look δ s arms arms' h a = grind arith
 
 looks_less : (c : Bool) (h h' : ℕ) → h + 1 ≤ h' → cond c (4 + quick h W2) 0 ≤ cond c (4 + quick h' W2) 0 - 1
 looks_less c h h' l = grind arith
 
 pub foe_held : (δ : Kind) (s : Bool) (arms arms' : ℕ → Stance) (u : Bool) (i : ℕ) → queue δ s (arms' i) + 1 ≤ queue δ s (arms i) → foe δ s arms' (waits u i W2) ≤ foe δ s arms (waits u i W2) - 1
-foe_held δ s arms arms' u i l = looks_less (same (not s) u) _ _ l
+foe_held δ s arms arms' u i l = looks_less (same_bit (not s) u) _ _ l
 
 abbrev pub most : Kind → ℕ
 most three_bits = 17

@@ -1,17 +1,17 @@
 -- How many own steps a waiting arm still needs while it is free to go and no other arm is in its doorway.
 use Rattle.std.proofs.Common.{◌≡◌, ℕ, ◌+◌, ◌-◌, ◌*◌, ◌≤◌, Bool, true, false, cond, not, T, eqb, ◌≢◌, sym, ap, ◌∙◌, subst, ⊎_elim, arith, eqb→eq}
 use Rattle.std.proofs.lemmas.Bool.Decides.{nat_tests}
-use Rattle.door.specs.declared.phase.Phase.TheVariants as P
-use Rattle.door.proofs.Bools.{same, same_refl, same_sym, opposite, differ, test, none_of, by}
-use Rattle.machine.specs.Kinds.{Kind, three_bits, four_valued, Place, W1, W2, W3, W4, W5, W6}
-use Rattle.machine.proofs.Machine.{Stance, waits, at, has, mygroup, step_waiting, step_arm, turn_step, Move, step, act, changed, changed_same, changed_other, Machine, moved}
-use Rattle.machine.proofs.Invariant.{Free, Inv, Home, seen_act, changed_seen}
+use Rattle.gate_model.specs.declared.phase.Phase.TheVariants as P
+use Rattle.gate_model.proofs.Bools.{same_bit, same_refl, same_sym, opposite, differ, test, none_of, by}
+use Rattle.machine.specs.Kinds.{Kind, three_bits, four_valued, WaitingPlace, W1, W2, W3, W4, W5, W6}
+use Rattle.machine.proofs.Machine.{Stance, waits, at, has, mygroup, step_waiting, step_arm, turn_step, Move, step, act, with_stance, with_stance_same, with_stance_other, Machine, moved}
+use Rattle.machine.proofs.Invariant.{Free, Inv, Home, act_nothing_new, with_stance_nothing_new}
 use Rattle.machine.proofs.Waiting.{has_own}
 use Rattle.machine.proofs.Potential.{Fit, turn_away, quick}
 use Rattle.machine.proofs.Falls.{fit_of}
 
 -- own steps still needed, at an index of another arm (its mygroup is the side, or not) and at the own index
-abbrev abroad_rank : Bool → Place → ℕ
+abbrev abroad_rank : Bool → WaitingPlace → ℕ
 abroad_rank q W1 = 6
 abroad_rank q W2 = 5
 abroad_rank q W3 = 4
@@ -19,20 +19,20 @@ abroad_rank q W4 = 3
 abroad_rank q W5 = cond q 2 5
 abroad_rank q W6 = cond q 1 4
 
-abbrev home_rank : Place → ℕ
+abbrev home_rank : WaitingPlace → ℕ
 home_rank W1 = 3
 home_rank W2 = 2
 home_rank p = 1
 
-abbrev here : Bool → Bool → Place → ℕ
+abbrev here : Bool → Bool → WaitingPlace → ℕ
 here t q p = cond t (home_rank p) (abroad_rank q p)
 
 -- the four-valued door looks at no mygroup
 abbrev mine : Kind → Bool → Stance → Bool
-mine three_bits s a = same (mygroup a) s
+mine three_bits s a = same_bit (mygroup a) s
 mine four_valued s a = false
 
-abbrev needed : Kind → Bool → ℕ → Bool → ℕ → Stance → ℕ → Place → ℕ
+abbrev needed : Kind → Bool → ℕ → Bool → ℕ → Stance → ℕ → WaitingPlace → ℕ
 needed δ true n s w a j p = 6 * (n - j) + 3 + here (eqb j w) (mine δ s a) p
 needed δ false n s w a j p = quick 0 p
 
@@ -41,48 +41,48 @@ needed_of δ e n s w arms (waits u j p) = needed δ e n s w (arms j) j p
 needed_of δ e n s w arms a = 0
 
 -- an own step takes one of them
-module _ (n : ℕ) (s : Bool) (w : ℕ) (arms : ℕ → Stance) (j : ℕ) (lo : 1 ≤ j) (hi : j ≤ n) (calm : T (not (at P.D (arms j)))) (own : T (eqb j w) → T (same (mygroup (arms j)) s)) where
-  needed_own : (δ : Kind) (β : Bool) (p : Place) → Home w (waits s j p) → (T (same β s) → T (not (has (not s) (arms j)))) → needed_of δ (same β s) n s w arms (step_waiting δ n β (arms j) s j p) + 1 ≤ needed δ (same β s) n s w (arms j) j p
+module _ (n : ℕ) (s : Bool) (w : ℕ) (arms : ℕ → Stance) (j : ℕ) (lo : 1 ≤ j) (hi : j ≤ n) (calm : T (not (at P.D (arms j)))) (own : T (eqb j w) → T (same_bit (mygroup (arms j)) s)) where
+  needed_own : (δ : Kind) (β : Bool) (p : WaitingPlace) → Home w (waits s j p) → (T (same_bit β s) → T (not (has (not s) (arms j)))) → needed_of δ (same_bit β s) n s w arms (step_waiting δ n β (arms j) s j p) + 1 ≤ needed δ (same_bit β s) n s w (arms j) j p
   needed_own three_bits β p home h = grind (arith, nat_tests)
   needed_own four_valued β p home h = grind (arith, nat_tests)
 
-needed_bound : (δ : Kind) (e : Bool) (n : ℕ) (s : Bool) (w : ℕ) (a : Stance) (j : ℕ) (p : Place) → 1 ≤ w → w ≤ n → 1 ≤ j → j ≤ n → needed δ e n s w a j p ≤ 8 * n
+needed_bound : (δ : Kind) (e : Bool) (n : ℕ) (s : Bool) (w : ℕ) (a : Stance) (j : ℕ) (p : WaitingPlace) → 1 ≤ w → w ≤ n → 1 ≤ j → j ≤ n → needed δ e n s w a j p ≤ 8 * n
 needed_bound δ e n s w a j p wlo whi lo hi = grind (arith, nat_tests)
 
 -- another arm's move
-needed_others : (δ : Kind) (e e' : Bool) (n : ℕ) (s : Bool) (w : ℕ) (a a' : Stance) (j : ℕ) (p : Place) → (T e' → T e) → (T e → T (mine δ s a) → T (mine δ s a')) → needed δ e' n s w a' j p ≤ needed δ e n s w a j p
+needed_others : (δ : Kind) (e e' : Bool) (n : ℕ) (s : Bool) (w : ℕ) (a a' : Stance) (j : ℕ) (p : WaitingPlace) → (T e' → T e) → (T e → T (mine δ s a) → T (mine δ s a')) → needed δ e' n s w a' j p ≤ needed δ e n s w a j p
 needed_others δ e e' n s w a a' j p f h = grind arith
 
 mine_act : (m : Move) (δ : Kind) (n : ℕ) (β : Bool) (arms : ℕ → Stance) (s : Bool) (a : Stance) → T (not (has (not s) a)) → T (mine δ s a) → T (mine δ s (act m δ n β arms a))
 mine_act m δ n β arms s a h q = grind arith
 
-pub free_none : (β : Bool) (arms : ℕ → Stance) (s : Bool) → Free β arms s → T (same β s) → (k : ℕ) → T (not (has (not s) (arms k)))
+pub free_none : (β : Bool) (arms : ℕ → Stance) (s : Bool) → Free β arms s → T (same_bit β s) → (k : ℕ) → T (not (has (not s) (arms k)))
 free_none β arms s free q k = none_of (has (not s) (arms k)) (λ h. opposite β s q (same_sym β (not s) (free k h)))
 
-needed_keeps : (δ : Kind) (e : Bool) (n : ℕ) (s : Bool) (w : ℕ) (arms : ℕ → Stance) (r x : Stance) → needed_of δ e n s w (changed arms w r) x ≤ needed_of δ e n s w arms x
+needed_keeps : (δ : Kind) (e : Bool) (n : ℕ) (s : Bool) (w : ℕ) (arms : ℕ → Stance) (r x : Stance) → needed_of δ e n s w (with_stance arms w r) x ≤ needed_of δ e n s w arms x
 needed_keeps δ e n s w arms r x = grind arith
 
 -- for an arm of the machine
 abbrev pub needs : Machine → Bool → ℕ → ℕ
-needs g s w = needed_of g.kind (same g.group s) g.n s w g.arms (g.arms w)
+needs g s w = needed_of g.kind (same_bit g.group s) g.n s w g.arms (g.arms w)
 
-module _ (g : Machine) (inv : Inv g) (w : ℕ) (s : Bool) (j : ℕ) (p : Place) (e : g.arms w ≡ waits s j p) (free : Free g.group g.arms s) where
+module _ (g : Machine) (inv : Inv g) (w : ℕ) (s : Bool) (j : ℕ) (p : WaitingPlace) (e : g.arms w ≡ waits s j p) (free : Free g.group g.arms s) where
   fit_w : (i : ℕ) → Fit g.group s (g.arms i)
   fit_w i = fit_of g w s (has_own g inv w s j p e) (g.arms i) (inv.own i)
 
   pub free_after : (m : Move) (i : ℕ) → Free (moved g m i).group (moved g m i).arms s
   free_after m i k h = ⊎_elim
       (λ q. let q' = turn_away m g.group s (g.arms i) (fit_w i) q in
-      absurd (⊎_elim (λ x. opposite g.group s q' (same_sym g.group (not s) (free k x.0))) (λ x. opposite g.group s q' x) (changed_seen g.group g.arms i _ (seen_act m g.kind g.n g.group g.arms (g.arms i)) k (not s) h)))
+      absurd (⊎_elim (λ x. opposite g.group s q' (same_sym g.group (not s) (free k x.0))) (λ x. opposite g.group s q' x) (with_stance_nothing_new g.group g.arms i _ (act_nothing_new m g.kind g.n g.group g.arms (g.arms i)) k (not s) h)))
       (λ d. differ (moved g m i).group s d)
-      (test (same (moved g m i).group s))
+      (test (same_bit (moved g m i).group s))
 
   pub needs_other : (m : Move) (i : ℕ) → i ≢ w → needs (moved g m i) s w ≤ needs g s w
   needs_other m i ne =
-      let E : Bool = same g.group s in
-      let E' : Bool = same (moved g m i).group s in
+      let E : Bool = same_bit g.group s in
+      let E' : Bool = same_bit (moved g m i).group s in
       let arms' : ℕ → Stance = (moved g m i).arms in
-      let r₁ : needed_of g.kind E' g.n s w arms' (arms' w) ≡ needed g.kind E' g.n s w (arms' j) j p = ap (needed_of g.kind E' g.n s w arms') (changed_other g.arms i _ w (λ q. ne (sym q)) ∙ e) in
+      let r₁ : needed_of g.kind E' g.n s w arms' (arms' w) ≡ needed g.kind E' g.n s w (arms' j) j p = ap (needed_of g.kind E' g.n s w arms') (with_stance_other g.arms i _ w (λ q. ne (sym q)) ∙ e) in
       let r₂ : needed_of g.kind E g.n s w g.arms (g.arms w) ≡ needed g.kind E g.n s w (g.arms j) j p = ap (needed_of g.kind E g.n s w g.arms) e in
       let x : needed g.kind E' g.n s w (arms' j) j p ≤ needed g.kind E g.n s w (g.arms j) j p = needed_others g.kind E E' g.n s w (g.arms j) (arms' j) j p (turn_away m g.group s (g.arms i) (fit_w i))
       (λ q h. by (λ y. T (mine g.kind s y)) (eqb j i) (act m g.kind g.n g.group g.arms (g.arms i)) (g.arms j)
@@ -91,21 +91,21 @@ module _ (g : Machine) (inv : Inv g) (w : ℕ) (s : Bool) (j : ℕ) (p : Place) 
 
   pub needs_mine : 1 ≤ j → j ≤ g.n → T (not (at P.D (g.arms j))) → needs (moved g step w) s w + 1 ≤ needs g s w
   needs_mine lo hi calm =
-      let E : Bool = same g.group s in
+      let E : Bool = same_bit g.group s in
       let r : Stance = step_waiting g.kind g.n g.group (g.arms j) s j p in
-      let arms' : ℕ → Stance = changed g.arms w r in
-      let r₁ : needed_of g.kind E g.n s w arms' (arms' w) ≡ needed_of g.kind E g.n s w arms' r = ap (needed_of g.kind E g.n s w arms') (changed_same g.arms w r) in
+      let arms' : ℕ → Stance = with_stance g.arms w r in
+      let r₁ : needed_of g.kind E g.n s w arms' (arms' w) ≡ needed_of g.kind E g.n s w arms' r = ap (needed_of g.kind E g.n s w arms') (with_stance_same g.arms w r) in
       let r₂ : needed_of g.kind E g.n s w g.arms (g.arms w) ≡ needed g.kind E g.n s w (g.arms j) j p = ap (needed_of g.kind E g.n s w g.arms) e in
       let x = needed_keeps g.kind E g.n s w g.arms r r in
-      let y = needed_own g.n s w g.arms j lo hi calm (λ t. subst (λ z. T (same (mygroup z) s)) (sym (ap g.arms (eqb→eq j w t) ∙ e)) (same_refl s)) g.kind g.group p (subst (λ z. Home w z) e (inv.home w)) (λ q. free_none g.group g.arms s free q j) in
-      subst (λ z. needed_of g.kind (same (turn_step g.group z) s) g.n s w (changed g.arms w (step_arm g.kind g.n g.group g.arms z)) (changed g.arms w (step_arm g.kind g.n g.group g.arms z) w) + 1 ≤ needed_of g.kind E g.n s w g.arms (g.arms w)) (sym e) (omega arith)
+      let y = needed_own g.n s w g.arms j lo hi calm (λ t. subst (λ z. T (same_bit (mygroup z) s)) (sym (ap g.arms (eqb→eq j w t) ∙ e)) (same_refl s)) g.kind g.group p (subst (λ z. Home w z) e (inv.home w)) (λ q. free_none g.group g.arms s free q j) in
+      subst (λ z. needed_of g.kind (same_bit (turn_step g.group z) s) g.n s w (with_stance g.arms w (step_arm g.kind g.n g.group g.arms z)) (with_stance g.arms w (step_arm g.kind g.n g.group g.arms z) w) + 1 ≤ needed_of g.kind E g.n s w g.arms (g.arms w)) (sym e) (omega arith)
 
   pub needs_some : 1 ≤ needs g s w
-  needs_some = subst (λ y. 1 ≤ needed_of g.kind (same g.group s) g.n s w g.arms y) (sym e) (some (same g.group s))
+  needs_some = subst (λ y. 1 ≤ needed_of g.kind (same_bit g.group s) g.n s w g.arms y) (sym e) (some (same_bit g.group s))
     where
       some : (b : Bool) → 1 ≤ needed g.kind b g.n s w (g.arms j) j p
       some b = grind arith
 
   pub needs_bound : 1 ≤ w → w ≤ g.n → 1 ≤ j → j ≤ g.n → needs g s w ≤ 8 * g.n
   needs_bound wlo whi lo hi =
-      subst (λ y. needed_of g.kind (same g.group s) g.n s w g.arms y ≤ 8 * g.n) (sym e) (needed_bound g.kind (same g.group s) g.n s w (g.arms j) j p wlo whi lo hi)
+      subst (λ y. needed_of g.kind (same_bit g.group s) g.n s w g.arms y ≤ 8 * g.n) (sym e) (needed_bound g.kind (same_bit g.group s) g.n s w (g.arms j) j p wlo whi lo hi)

@@ -1,9 +1,9 @@
 -- The machine shows the three rules: every move of it is a change of its meaning.
 use Rattle.std.proofs.Common.{◌≡◌, ℕ, Bool, true, not, T, sym, ap, subst, ⊎_elim, arith}
-use Rattle.door.specs.Meaning.{Stage, resting, coming, read, waiting, inside as within, leaving, turned, has as stage_has, phase as stage_phase_of, Meaning}
-use Rattle.door.proofs.Changes.{Goes, rests, begins, reads, ends, enters, leaves, turns, quits, Change}
-use Rattle.machine.specs.Kinds.{Kind, three_bits, four_valued, Place}
-use Rattle.machine.proofs.Machine.{Stance, idle, d1, d2, d3, d4, d5, waits, inside, x1, x2, phase, has, step_waiting, step_arm, turn_step, Move, begin, step, admit, leave, act, turn, changed_same, changed_other, Machine, moved}
+use Rattle.gate_model.specs.Meaning.{Stage, resting, coming, read, waiting, inside as within, leaving, turned, has as stage_has, phase as stage_phase_of, Meaning}
+use Rattle.gate_model.proofs.Changes.{Goes, rests, begins, reads, ends, enters, leaves, turns, quits, Change}
+use Rattle.machine.specs.Kinds.{Kind, three_bits, four_valued, WaitingPlace}
+use Rattle.machine.proofs.Machine.{Stance, idle, d1, d2, d3, d4, d5, waits, inside, x1, x2, phase, has, step_waiting, step_arm, turn_step, Move, begin, step, admit, leave, act, turn, with_stance_same, with_stance_other, Machine, moved}
 use Rattle.machine.proofs.Invariant.{Own, Inv, Free, Ranged, wait_own}
 use Rattle.machine.proofs.Waiting.{wait_out}
 
@@ -30,7 +30,7 @@ stage_side : (a : Stance) (t : Bool) → T (stage_has t (stage a)) → T (has t 
 stage_side a t h = grind arith
 
 module _ (n : ℕ) (β : Bool) (arms : ℕ → Stance) (range : Ranged n arms) where
-  wait_goes : (δ : Kind) (s : Bool) (j : ℕ) (p : Place) → Own n β arms (waits s j p) → Goes β (λ k. stage (arms k)) (waiting s) (stage (step_waiting δ n β (arms j) s j p)) β
+  wait_goes : (δ : Kind) (s : Bool) (j : ℕ) (p : WaitingPlace) → Own n β arms (waits s j p) → Goes β (λ k. stage (arms k)) (waiting s) (stage (step_waiting δ n β (arms j) s j p)) β
   wait_goes δ s j p o = ⊎_elim
       (λ x. subst (λ y. Goes β (λ k. stage (arms k)) (waiting s) (stage y) β) (sym x.2) rests)
       (λ e.
@@ -58,7 +58,7 @@ module _ (n : ℕ) (β : Bool) (arms : ℕ → Stance) (range : Ranged n arms) w
 
 pub move_change : (g : Machine) → Inv g → (m : Move) (i : ℕ) → Change (meaning g) (meaning (moved g m i)) i
 move_change g inv m i = record {
-  goes = subst (λ y. Goes g.group (λ k. stage (g.arms k)) (stage (g.arms i)) (stage y) (turn m g.group (g.arms i))) (sym (changed_same g.arms i _))
+  goes = subst (λ y. Goes g.group (λ k. stage (g.arms k)) (stage (g.arms i)) (stage y) (turn m g.group (g.arms i))) (sym (with_stance_same g.arms i _))
       (act_goes g.n g.group g.arms inv.range m g.kind (g.arms i) (inv.own i));
-  frame = λ k ne. ap stage (changed_other g.arms i _ k ne);
+  frame = λ k ne. ap stage (with_stance_other g.arms i _ k ne);
 }

@@ -1,20 +1,20 @@
 -- An arm that waits: what a move makes of it, and when it goes inside.
 use Rattle.std.proofs.Common.{◌≡◌, ℕ, zero, suc, ◌≤◌, Bool, false, not, T, ◌≢◌, ◌⊎◌, sym, refl, ap, ◌∙◌, subst, inl, inr, ⊎_elim, arith}
 use Rattle.std.proofs.lemmas.Bool.{cases_eq}
-use Rattle.door.specs.declared.phase.Phase.TheVariants as P
-use Rattle.door.proofs.Bools.{same_refl, test}
-use Rattle.machine.specs.Kinds.{Kind, Place}
-use Rattle.machine.proofs.Machine.{Stance, waits, inside, at, has, step_waiting, outcome, step_arm, Move, step, is_step, allowed, changed_same, changed_other, Machine, moved}
+use Rattle.gate_model.specs.declared.phase.Phase.TheVariants as P
+use Rattle.gate_model.proofs.Bools.{same_refl, test}
+use Rattle.machine.specs.Kinds.{Kind, WaitingPlace}
+use Rattle.machine.proofs.Machine.{Stance, waits, inside, at, has, step_waiting, outcome, step_arm, Move, step, is_step, allowed, with_stance_same, with_stance_other, Machine, moved}
 use Rattle.machine.proofs.Invariant.{Free, Own, Inv, wait_own}
 
 abbrev pub Waiting : Bool → Stance → Type 0
-Waiting s a = (j : ℕ) × (p : Place) × (a ≡ waits s j p)
+Waiting s a = (j : ℕ) × (p : WaitingPlace) × (a ≡ waits s j p)
 
-pub wait_out : (δ : Kind) (n : ℕ) (β : Bool) (b : Stance) (s : Bool) (j : ℕ) (p : Place) → Waiting s (step_waiting δ n β b s j p) ⊎ (step_waiting δ n β b s j p ≡ inside s false)
+pub wait_out : (δ : Kind) (n : ℕ) (β : Bool) (b : Stance) (s : Bool) (j : ℕ) (p : WaitingPlace) → Waiting s (step_waiting δ n β b s j p) ⊎ (step_waiting δ n β b s j p ≡ inside s false)
 wait_out δ n β b s = outcome (λ r. Waiting s r ⊎ (r ≡ inside s false)) δ n β b s (λ j p. inl (j, p, refl)) (inr refl)
 
 -- it may only step
-pub only_steps : (m : Move) (s : Bool) (j : ℕ) (p : Place) → T (allowed m (waits s j p)) → m ≡ step
+pub only_steps : (m : Move) (s : Bool) (j : ℕ) (p : WaitingPlace) → T (allowed m (waits s j p)) → m ≡ step
 only_steps m s j p h = grind arith
 
 -- what its phase says
@@ -47,7 +47,7 @@ find f (suc n) = ⊎_elim
 abbrev pub Entry : Move → ℕ → ℕ → Machine → Type 0
 Entry m i w g' = (i ≡ w) × T (is_step m) × T (at P.F (g'.arms w))
 
-module _ (g : Machine) (inv : Inv g) (w : ℕ) (s : Bool) (j : ℕ) (p : Place) (e : g.arms w ≡ waits s j p) where
+module _ (g : Machine) (inv : Inv g) (w : ℕ) (s : Bool) (j : ℕ) (p : WaitingPlace) (e : g.arms w ≡ waits s j p) where
   pub has_own : T (has s (g.arms w))
   has_own = subst (λ y. T (has s y)) (sym e) (same_refl s)
 
@@ -59,10 +59,10 @@ module _ (g : Machine) (inv : Inv g) (w : ℕ) (s : Bool) (j : ℕ) (p : Place) 
 
   -- another arm moves
   pub other_waits : (m : Move) (i : ℕ) → i ≢ w → Waiting s ((moved g m i).arms w)
-  other_waits m i ne = (j, p, changed_other g.arms i _ w (λ q. ne (sym q)) ∙ e)
+  other_waits m i ne = (j, p, with_stance_other g.arms i _ w (λ q. ne (sym q)) ∙ e)
 
   own_result : (moved g step w).arms w ≡ step_waiting g.kind g.n g.group (g.arms j) s j p
-  own_result = changed_same g.arms w _ ∙ ap (step_arm g.kind g.n g.group g.arms) e
+  own_result = with_stance_same g.arms w _ ∙ ap (step_arm g.kind g.n g.group g.arms) e
 
   -- it steps itself
   pub own_out : Waiting s ((moved g step w).arms w) ⊎ ((moved g step w).arms w ≡ inside s false)

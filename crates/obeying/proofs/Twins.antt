@@ -1,11 +1,11 @@
 -- Orders at two gates that go the same way come to the same.
 use Rattle.std.proofs.Common.{◌≡◌, ℕ, ◌+◌, if◌then◌else◌, is_some, List, [], ◌∷◌, sym, refl, subst}
-use Rattle.door.specs.Accesses.{ShowsAccesses}
-use Rattle.door.specs.Calls.{refusal_of, after, unless, left_at_once}
-use Rattle.door.specs.States.{State}
-use Rattle.door.specs.Table.{Table}
-use Rattle.door.specs.declared.call.Call.TheVariants.{Begin as begin, Step as step, Admit as admit, Leave as leave}
-use Rattle.door.proofs.Twins.{Twins, same_refusal, unless_same, after_twins}
+use Rattle.gate_model.specs.Accesses.{ShowsAccesses}
+use Rattle.gate_model.specs.Calls.{refusal_of, after, unless, left_at_once}
+use Rattle.gate_model.specs.States.{State}
+use Rattle.gate_model.specs.Table.{Table}
+use Rattle.gate_model.specs.declared.call.Call.TheVariants.{Begin as begin, Step as step, Admit as admit, Leave as leave}
+use Rattle.gate_model.proofs.Twins.{Twins, same_refusal, unless_same, after_twins}
 use Rattle.schedule.specs.declared.order_number.Order.{Order}
 use Rattle.schedule.specs.declared.order_number.Order.TheVariants.{Begin, Step, Leave}
 use Rattle.obeying.specs.Obeying.{order_refusal, obeyed, obeyed_all, refusals, each_refusal}

@@ -1,10 +1,10 @@
 -- What a gate makes of the orders of a schedule.
 use Rattle.std.specs.Prelude.{ℕ, ◌+◌, List, [], ◌∷◌, Option, is_some, if◌then◌else◌}
-use Rattle.door.specs.Calls.{refusal_of, after, left_at_once}
-use Rattle.door.specs.Table.{Table}
-use Rattle.door.specs.States.{State}
-use Rattle.door.specs.declared.call.Call.TheVariants.{Begin as begin, Step as step, Admit as admit}
-use Rattle.door.specs.declared.refusal.Refusal.{Refusal}
+use Rattle.gate_model.specs.Calls.{refusal_of, after, left_at_once}
+use Rattle.gate_model.specs.Table.{Table}
+use Rattle.gate_model.specs.States.{State}
+use Rattle.gate_model.specs.declared.call.Call.TheVariants.{Begin as begin, Step as step, Admit as admit}
+use Rattle.gate_model.specs.declared.refusal.Refusal.{Refusal}
 use Rattle.schedule.specs.declared.order_number.Order.{Order}
 use Rattle.schedule.specs.declared.order_number.Order.TheVariants.{Begin, Step, Leave}
 

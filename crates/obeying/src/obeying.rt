@@ -2,9 +2,9 @@ ghost use Rattle.std.specs.Prelude.{◌≡◌};
 ghost use Rattle.obeying.specs.Obeying.{order_refusal, obeyed};
 
 use bank::Bank;
-use door::Refusal;
 use doors::Door;
 use gate::Gate;
+use gate_model::Refusal;
 use schedule::Order;
 
 /// Obeys one order, unless the gate refuses it. A leave order admits and leaves.

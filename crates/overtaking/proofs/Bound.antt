@@ -1,24 +1,24 @@
 -- How often an arm is passed, put together: from the rules, and where an arm rests, begins and leaves.
 use Rattle.std.proofs.Common.{◌≡◌, ℕ, ◌+◌, ◌-◌, ◌≤◌, false, cond, T, List, length, sym, refl, ap, ◌∙◌, subst, arith}
 use Rattle.std.proofs.lemmas.List.{length-replicate, get_or-replicate}
-use Rattle.door.specs.Limits.{arm_limit}
-use Rattle.door.specs.Making.{Making}
-use Rattle.door.specs.Table.{Table}
-use Rattle.door.specs.Arms.{fresh, no_arm}
-use Rattle.door.specs.States.{State, made, is_arm, arm_at}
-use Rattle.door.specs.Calls.{run}
-use Rattle.door.specs.History.{is_in, past_doorway, Waits, IsPastDoorway, entries_before, latest_lost, entries_since, idle_then, lost_to}
-use Rattle.door.specs.Phases.{same_phase}
-use Rattle.door.specs.Rules.{Phased, ShowsRules}
-use Rattle.door.specs.Law.{AtMostTwiceUntilIdle, OnceIfIdleUntilIdle, OnceItself, Passing}
-use Rattle.door.specs.declared.call.Call.{Call}
-use Rattle.door.specs.declared.phase.Phase.TheVariants as P
-use Rattle.door.proofs.Bools.{and_T, T_and, T_or_left, is_true}
-use Rattle.door.proofs.Rooms.{arms_few}
-use Rattle.door.proofs.Accepted.{arm_in}
-use Rattle.door.proofs.Meant.{start_fresh}
+use Rattle.gate_model.specs.Limits.{arm_limit}
+use Rattle.gate_model.specs.Making.{Making}
+use Rattle.gate_model.specs.Table.{Table}
+use Rattle.gate_model.specs.Arms.{fresh, no_arm}
+use Rattle.gate_model.specs.States.{State, made, is_arm, arm_at}
+use Rattle.gate_model.specs.Calls.{run}
+use Rattle.gate_model.specs.History.{is_in, past_doorway, Waits, IsPastDoorway, entries_before, latest_lost, entries_since, idle_then, lost_to}
+use Rattle.gate_model.specs.Phases.{same_phase}
+use Rattle.gate_model.specs.Rules.{Phased, ShowsRules}
+use Rattle.gate_model.specs.Law.{AtMostTwiceUntilIdle, OnceIfIdleUntilIdle, OnceItself, Passing}
+use Rattle.gate_model.specs.declared.call.Call.{Call}
+use Rattle.gate_model.specs.declared.phase.Phase.TheVariants as P
+use Rattle.gate_model.proofs.Bools.{and_T, T_and, T_or_left, is_true}
+use Rattle.gate_model.proofs.Rooms.{arms_few}
+use Rattle.gate_model.proofs.Accepted.{arm_in}
+use Rattle.gate_model.proofs.Meant.{start_fresh}
 use Rattle.overtaking.proofs.Entries.{Overtaken, overtaken_run, bound, once_itself as exactly_once, start_overtaken}
-use Rattle.door.proofs.Unaltered.{run_n}
+use Rattle.gate_model.proofs.Unaltered.{run_n}
 use Rattle.overtaking.proofs.Rows.{Row, Kept, kept_run}
 
 module _ {At : Type 0} {door : Table At} (phased : Phased door) (rules : ShowsRules door) (making : Making) (past : List Call) where

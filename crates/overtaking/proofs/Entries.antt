@@ -2,28 +2,28 @@
 use Rattle.std.proofs.Common.{◌≡◌, ℕ, ◌+◌, ◌≤◌, Bool, false, cond, not, ◌&&◌, T, ◌⊎◌, inl, List, [], ◌∷◌, sym, refl, subst, ⊎_elim, arith}
 use Rattle.std.proofs.lemmas.Bool.{cases_eq}
 use Rattle.std.proofs.lemmas.Bool.Decides.{nat_tests}
-use Rattle.door.specs.Phases.{same_phase}
-use Rattle.door.specs.Table.{Table}
-use Rattle.door.specs.Making.{Making}
-use Rattle.door.specs.States.{State, made, phase_at}
-use Rattle.door.specs.Calls.{after, run}
-use Rattle.door.specs.History.{is_in, past_doorway, step_of, steps, ends_doorway, goes_inside, count_on, latest_idle}
-use Rattle.door.specs.Law.{Origin}
-use Rattle.door.specs.Meaning.{Stage, waiting, inside, leaving, turned, at, meaning_of, arm_of}
-use Rattle.door.proofs.Changes.{Goes, ends_doorway as ends, goes_inside as enters}
-use Rattle.door.specs.Rules.{Phased, ShowsRules}
-use Rattle.door.specs.declared.arm.Arm.{Arm}
-use Rattle.door.specs.declared.call.Call.{Call}
-use Rattle.door.specs.declared.phase.Phase.{Phase}
-use Rattle.door.specs.declared.phase.Phase.TheVariants as P
-use Rattle.door.proofs.Bools.{same_refl, and_T, test}
-use Rattle.door.proofs.Bounds.{all_there}
-use Rattle.door.proofs.Effects.{begins, admits, leaves}
+use Rattle.gate_model.specs.Phases.{same_phase}
+use Rattle.gate_model.specs.Table.{Table}
+use Rattle.gate_model.specs.Making.{Making}
+use Rattle.gate_model.specs.States.{State, made, phase_at}
+use Rattle.gate_model.specs.Calls.{after, run}
+use Rattle.gate_model.specs.History.{is_in, past_doorway, step_of, steps, ends_doorway, goes_inside, count_on, latest_idle}
+use Rattle.gate_model.specs.Law.{Origin}
+use Rattle.gate_model.specs.Meaning.{Stage, waiting, inside, leaving, turned, at, meaning_of, arm_of}
+use Rattle.gate_model.proofs.Changes.{Goes, ends_doorway as ends, goes_inside as enters}
+use Rattle.gate_model.specs.Rules.{Phased, ShowsRules}
+use Rattle.gate_model.specs.declared.arm.Arm.{Arm}
+use Rattle.gate_model.specs.declared.call.Call.{Call}
+use Rattle.gate_model.specs.declared.phase.Phase.{Phase}
+use Rattle.gate_model.specs.declared.phase.Phase.TheVariants as P
+use Rattle.gate_model.proofs.Bools.{same_refl, and_T, test}
+use Rattle.gate_model.proofs.Bounds.{all_there}
+use Rattle.gate_model.proofs.Effects.{begins, admits, leaves}
 use Rattle.overtaking.proofs.Overtaking.{Inv, inv_change, past_doorway as is_past_doorway, is_past, Counted, count_change}
-use Rattle.door.proofs.Meant.{two_phases, phase_meant, change_at, start_rests}
-use Rattle.door.proofs.Origins.{origin_made, origin_after}
-use Rattle.door.proofs.Records.{Became, stays, visited, moved_on, became_by}
-use Rattle.door.proofs.Unaltered.{after_n}
+use Rattle.gate_model.proofs.Meant.{two_phases, phase_meant, change_at, start_rests}
+use Rattle.gate_model.proofs.Origins.{origin_made, origin_after}
+use Rattle.gate_model.proofs.Records.{Became, stays, visited, moved_on, became_by}
+use Rattle.gate_model.proofs.Unaltered.{after_n}
 
 absorb : (x y : Bool) → (T y → T x) → (x && y) ≡ y
 absorb x y h = grind arith

@@ -1,20 +1,20 @@
 -- The law of a gate over any door, put together: how often an arm is passed, the reads of a doorway, and right of way and going inside as the door shows them.
 use Rattle.std.proofs.Common.{◌≡◌, ℕ, ◌+◌, ◌*◌, ◌≤◌, Bool, true, T, ◌↔◌, ◌⊎◌, inr, List, [], ◌∷◌, None, Ok, Result, sym, ap, ◌∙◌, subst, arith}
-use Rattle.door.specs.Table.{Table}
-use Rattle.door.specs.States.{State, made}
-use Rattle.door.specs.Calls.{after, run, refusal_of, answered, has_way, way_answer}
-use Rattle.door.specs.History.{goes_inside, GoesInside, Waits, Rounds}
-use Rattle.door.specs.Doorways.{ShowsReads}
-use Rattle.door.specs.Rules.{Phased, Always, ShowsRules}
-use Rattle.door.specs.Law.{AllInsideByDoor, WayTold, ShowsWay, Fair, Law, Origin, IsReached, Tells}
-use Rattle.door.specs.declared.call.Call.{Call}
-use Rattle.door.specs.declared.call.Call.TheVariants.{Way}
-use Rattle.door.specs.declared.refusal.Refusal.{Refusal}
-use Rattle.door.proofs.Always.{at_origin, at_reached, true_at}
-use Rattle.door.proofs.Bools.{test}
+use Rattle.gate_model.specs.Table.{Table}
+use Rattle.gate_model.specs.States.{State, made}
+use Rattle.gate_model.specs.Calls.{after, run, refusal_of, answered, has_way, way_answer}
+use Rattle.gate_model.specs.History.{goes_inside, GoesInside, Waits, Rounds}
+use Rattle.gate_model.specs.Doorways.{ShowsReads}
+use Rattle.gate_model.specs.Rules.{Phased, Always, ShowsRules}
+use Rattle.gate_model.specs.Law.{AllInsideByDoor, WayTold, ShowsWay, Fair, Law, Origin, IsReached, Tells}
+use Rattle.gate_model.specs.declared.call.Call.{Call}
+use Rattle.gate_model.specs.declared.call.Call.TheVariants.{Way}
+use Rattle.gate_model.specs.declared.refusal.Refusal.{Refusal}
+use Rattle.gate_model.proofs.Always.{at_origin, at_reached, true_at}
+use Rattle.gate_model.proofs.Bools.{test}
 use Rattle.overtaking.proofs.Bound.{passing}
-use Rattle.door.proofs.Doorways.{reading}
-use Rattle.door.proofs.Sooner.{inside_more, some_arm, rounds_few}
+use Rattle.gate_model.proofs.Doorways.{reading}
+use Rattle.gate_model.proofs.Sooner.{inside_more, some_arm, rounds_few}
 
 -- the answer of way
 yes_is : (b : Bool) → (◌≡◌ {A = Result Bool Refusal} (Ok b) (Ok true)) ↔ T b

@@ -2,21 +2,21 @@
 use Rattle.std.proofs.Common.{◌≡◌, ℕ, ◌+◌, ◌≤◌, Bool, cond, not, ◌&&◌, ◌||◌, T, eqb, ◌≢◌, ◌⊎◌, sym, refl, ap, ◌∙◌, subst, inl, ⊎_elim, arith}
 use Rattle.std.proofs.lemmas.Bool.{cases_eq}
 use Rattle.std.proofs.lemmas.Bool.Decides.{nat_tests}
-use Rattle.door.specs.Meaning.{Stage, resting, coming, read, waiting, inside, leaving, turned, has, at, Meaning}
-use Rattle.door.specs.Rules.{Free}
-use Rattle.door.proofs.Changes.{Goes, enters, turns, Change, ends_doorway, goes_inside}
-use Rattle.door.specs.declared.phase.Phase.TheVariants as P
-use Rattle.door.proofs.Bools.{same, same_refl, same_trans}
+use Rattle.gate_model.specs.Meaning.{Stage, resting, coming, read, waiting, inside, leaving, turned, has, at, Meaning}
+use Rattle.gate_model.specs.Rules.{Free}
+use Rattle.gate_model.proofs.Changes.{Goes, enters, turns, Change, ends_doorway, goes_inside}
+use Rattle.gate_model.specs.declared.phase.Phase.TheVariants as P
+use Rattle.gate_model.proofs.Bools.{same_bit, same_refl, same_trans}
 
 -- who is inside: if an arm with side t is in F, or in X before its first exit step, then the bit is 1 - t or no arm has side 1 - t
 abbrev pub Own : Bool → (ℕ → Stage) → Stage → Type 0
 Own bit arms (inside t) = Free bit arms t
 Own bit arms (leaving t) = Free bit arms t
-Own bit arms (turned t) = T (same bit (not t))
+Own bit arms (turned t) = T (same_bit bit (not t))
 Own bit arms a = Unit {0}
 
 -- facts last while the bit does, and sides come only from it
-keep : (bit : Bool) (arms arms' : ℕ → Stage) → ((k : ℕ) (t : Bool) → T (has t (arms' k)) → T (has t (arms k)) ⊎ T (same t bit)) → (a : Stage) → Own bit arms a → Own bit arms' a
+keep : (bit : Bool) (arms arms' : ℕ → Stage) → ((k : ℕ) (t : Bool) → T (has t (arms' k)) → T (has t (arms k)) ⊎ T (same_bit t bit)) → (a : Stage) → Own bit arms a → Own bit arms' a
 keep bit arms arms' seen a h = grind (arith, seen)
 
 turn_other : (bit t : Bool) (arms arms' : ℕ → Stage) (i : ℕ) → arms i ≡ leaving t → Free bit arms t → (k : ℕ) (a : Stage) → arms k ≡ a → Own bit arms a → Own (not t) arms' a
@@ -25,13 +25,13 @@ turn_other bit t arms arms' i e free k (leaving s) q h = let x = free k in let y
 turn_other bit t arms arms' i e free k a q h = let x = free k in grind arith
 
 module _ (bit : Bool) (arms arms' : ℕ → Stage) (i : ℕ) (frame : (k : ℕ) → k ≢ i → arms' k ≡ arms k) (own : (k : ℕ) → Own bit arms (arms k)) where
-  own_still : (a : Stage) → arms' i ≡ a → ((t : Bool) → T (has t a) → T (has t (arms i)) ⊎ T (same t bit)) → Own bit arms a → (k : ℕ) → Own bit arms' (arms' k)
+  own_still : (a : Stage) → arms' i ≡ a → ((t : Bool) → T (has t a) → T (has t (arms i)) ⊎ T (same_bit t bit)) → Own bit arms a → (k : ℕ) → Own bit arms' (arms' k)
   own_still a e seen h k = ⊎_elim
       (λ q. subst (Own bit arms') (sym (ap arms' q ∙ e)) (keep bit arms arms' all a h))
       (λ ne. subst (Own bit arms') (sym (frame k ne)) (keep bit arms arms' all (arms k) (own k)))
       (cases_eq k i)
     where
-      all : (k : ℕ) (t : Bool) → T (has t (arms' k)) → T (has t (arms k)) ⊎ T (same t bit)
+      all : (k : ℕ) (t : Bool) → T (has t (arms' k)) → T (has t (arms k)) ⊎ T (same_bit t bit)
       all k t x = let f = frame k in let s = seen t in let c = cases_eq k i in grind arith
 
   own_goes : (a a' : Stage) (b' : Bool) → arms i ≡ a → arms' i ≡ a' → Goes bit arms a a' b' → (k : ℕ) → Own b' arms' (arms' k)
@@ -49,18 +49,18 @@ past_doorway a = at P.W a || (at P.F a || at P.X a)
 abbrev pub is_past : Bool → Stage → Bool
 is_past s a = past_doorway a && has s a
 
-past_has : (s u : Bool) (a : Stage) → T (is_past s a) → T (same u s) → T (has u a)
+past_has : (s u : Bool) (a : Stage) → T (is_past s a) → T (same_bit u s) → T (has u a)
 past_has s u a h q = grind arith
 
 -- how often an arm can still get past one of side s that is past its doorway: e says that the bit is s
 abbrev pub left : Bool → Bool → Stage → ℕ
 left e s resting = cond e 1 0
 left e s coming = cond e 1 0
-left e s (read u) = cond (same u s) 1 (cond e 2 0)
-left e s (waiting u) = cond (same u s) 1 (cond e 2 0)
-left e s (inside u) = cond (same u s) 0 (cond e 1 0)
-left e s (leaving u) = cond (same u s) 0 (cond e 1 0)
-left e s (turned u) = cond (same u s) 0 (cond e 1 0)
+left e s (read u) = cond (same_bit u s) 1 (cond e 2 0)
+left e s (waiting u) = cond (same_bit u s) 1 (cond e 2 0)
+left e s (inside u) = cond (same_bit u s) 0 (cond e 1 0)
+left e s (leaving u) = cond (same_bit u s) 0 (cond e 1 0)
+left e s (turned u) = cond (same_bit u s) 0 (cond e 1 0)
 
 left_high : (e s : Bool) (a : Stage) → left e s a ≤ 2
 left_high e s a = grind arith
@@ -72,17 +72,17 @@ left_falls : (e e' s : Bool) (a : Stage) → (T e' → T e) → left e' s a ≤ 
 left_falls e e' s a f = grind arith
 
 module _ (bit : Bool) (arms : ℕ → Stage) (w : ℕ) (s : Bool) (h : T (is_past s (arms w))) where
-  w_side : (u : Bool) → T (same u s) → T (has u (arms w))
+  w_side : (u : Bool) → T (same_bit u s) → T (has u (arms w))
   w_side u = past_has s u (arms w) h
 
-  away : (a a' : Stage) (b' : Bool) → Goes bit arms a a' b' → Own bit arms a → T (same b' s) → T (same bit s)
+  away : (a a' : Stage) (b' : Bool) → Goes bit arms a a' b' → Own bit arms a → T (same_bit b' s) → T (same_bit bit s)
   away a a' b' (turns {t = u}) o q = same_trans bit (not u) s (o w (w_side (not u) q)) q
   away a a' b' goes o q = q
 
   -- what a call of b leaves, and what an entry of b uses up
-  left_goes : (a a' : Stage) (b' : Bool) → Goes bit arms a a' b' → Own bit arms a → (left (same b' s) s a' ≤ left (same bit s) s a) × (T (at P.W a && at P.F a') → left (same b' s) s a' + 1 ≤ left (same bit s) s a)
-  left_goes a a' b' (enters {t = u} f) o = let x : T (same (not u) s) → T (same bit (not u)) = λ q. f w (w_side (not u) q) in grind arith
-  left_goes a a' b' (turns {t = u}) o = let x : T (same (not u) s) → T (same bit (not u)) = λ q. o w (w_side (not u) q) in grind arith
+  left_goes : (a a' : Stage) (b' : Bool) → Goes bit arms a a' b' → Own bit arms a → (left (same_bit b' s) s a' ≤ left (same_bit bit s) s a) × (T (at P.W a && at P.F a') → left (same_bit b' s) s a' + 1 ≤ left (same_bit bit s) s a)
+  left_goes a a' b' (enters {t = u} f) o = let x : T (same_bit (not u) s) → T (same_bit bit (not u)) = λ q. f w (w_side (not u) q) in grind arith
+  left_goes a a' b' (turns {t = u}) o = let x : T (same_bit (not u) s) → T (same_bit bit (not u)) = λ q. o w (w_side (not u) q) in grind arith
   left_goes a a' b' goes o = grind arith
 
 -- what is left of its own entry: 2 before it, so that it has none while it waits
@@ -111,7 +111,7 @@ count W W' rem rem' E N d o own k L high hE hF s w = grind (arith, L s, high s, 
 
 -- how often b can still get past w that is past its doorway with side s
 abbrev pub remaining : ℕ → ℕ → Meaning → Bool → ℕ
-remaining w b m s = cond (eqb b w) (itself (m.arms w)) (left (same m.bit s) s (m.arms b))
+remaining w b m s = cond (eqb b w) (itself (m.arms w)) (left (same_bit m.bit s) s (m.arms b))
 
 -- while w is past its doorway: k entries of b since it ended it, o tells whether b was idle then; of w itself the entries are exact
 abbrev pub Counted : ℕ → ℕ → Meaning → ℕ → Bool → Type 0
@@ -135,12 +135,12 @@ module _ (w b : ℕ) (m m' : Meaning) (i : ℕ) (c : Change m m' i) (own : Inv m
       (cases_eq i w)
 
   left_change : (s : Bool) → T (is_past s (m.arms w)) → T (not (eqb b w))
-      → (left (same m'.bit s) s (m'.arms b) ≤ left (same m.bit s) s (m.arms b))
-      × (T (goes_inside b m m') → left (same m'.bit s) s (m'.arms b) + 1 ≤ left (same m.bit s) s (m.arms b))
+      → (left (same_bit m'.bit s) s (m'.arms b) ≤ left (same_bit m.bit s) s (m.arms b))
+      × (T (goes_inside b m m') → left (same_bit m'.bit s) s (m'.arms b) + 1 ≤ left (same_bit m.bit s) s (m.arms b))
   left_change s old ne = ⊎_elim
       (λ q. left_goes m.bit m.arms w s old (m.arms b) (m'.arms b) m'.bit (goes_at b q) (own b))
       (λ d.
-      let x = left_falls (same m.bit s) (same m'.bit s) s (m.arms b) (away m.bit m.arms w s old (m.arms i) (m'.arms i) m'.bit c.goes (own i)) in
+      let x = left_falls (same_bit m.bit s) (same_bit m'.bit s) s (m.arms b) (away m.bit m.arms w s old (m.arms i) (m'.arms i) m'.bit c.goes (own i)) in
       let y = still b d in
       (rw y x, λ t. grind arith))
       (cases_eq i b)
@@ -148,10 +148,10 @@ module _ (w b : ℕ) (m m' : Meaning) (i : ℕ) (c : Change m m' i) (own : Inv m
   -- what may still come: two at most; one at most if b was idle as w ended its doorway, and two of w itself then;
   -- at any other call no more than before, and one less where b goes inside
   remaining_high : (s : Bool) → remaining w b m' s ≤ 2
-  remaining_high s = let x = left_high (same m'.bit s) s (m'.arms b) in grind arith
+  remaining_high s = let x = left_high (same_bit m'.bit s) s (m'.arms b) in grind arith
 
   remaining_start : T (ends_doorway w m m') → (s : Bool) → (T (at P.I (m.arms b)) → remaining w b m' s ≤ 1) × (T (eqb b w) → 2 ≤ remaining w b m' s)
-  remaining_start t s = (λ d. let x = left_idle (same m'.bit s) s (m'.arms b) in let y = idle_stays t d in grind (arith, nat_tests), λ e. grind arith)
+  remaining_start t s = (λ d. let x = left_idle (same_bit m'.bit s) s (m'.arms b) in let y = idle_stays t d in grind (arith, nat_tests), λ e. grind arith)
 
   pub remaining_change : T (not (ends_doorway w m m')) → (s : Bool) → T (is_past s (m'.arms w)) → T (is_past s (m.arms w))
       × (remaining w b m' s ≤ remaining w b m s)

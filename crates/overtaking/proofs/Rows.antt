@@ -5,25 +5,25 @@ use Rattle.std.proofs.lemmas.Bool.Decides.{nat_tests}
 use lib.Dec.{eqb_refl}
 use Rattle.std.proofs.lemmas.Bool.{cases_eq}
 use Rattle.std.proofs.lemmas.List.{length-replicate, get_or-replicate, length-set, get_or-set_same, get_or-set_other, get_or-map}
-use Rattle.door.specs.Limits.{arm_limit, tally_limit}
-use Rattle.door.specs.Arms.{no_arm}
-use Rattle.door.specs.States.{State, arm_at, phase_at, with_arm}
-use Rattle.door.specs.Calls.{with_visit, arm_after, stepped, after, run}
-use Rattle.door.specs.History.{is_in, step_of, ends_doorway, goes_inside, entries_before, latest_lost, count_on, latest_idle}
-use Rattle.door.specs.declared.arm.Arm.{Arm}
-use Rattle.door.specs.declared.call.Call.{Call}
-use Rattle.door.proofs.Bools.{by, is_true, T_or_left}
-use Rattle.door.specs.Table.{Table}
-use Rattle.door.specs.Phases.{same_phase}
-use Rattle.door.specs.Tallies.{with_row, counted, is_idle, tallied}
-use Rattle.door.specs.Rules.{Phased, ShowsRules}
-use Rattle.door.specs.declared.phase.Phase.{Phase}
-use Rattle.door.specs.declared.phase.Phase.TheVariants as P
-use Rattle.door.proofs.Bounds.{all_there}
-use Rattle.door.proofs.Effects.{begins, admits, leaves, Does, nothing, visits, steps, does, no_step}
-use Rattle.door.proofs.SameButRow.{tallied_table}
+use Rattle.gate_model.specs.Limits.{arm_limit, tally_limit}
+use Rattle.gate_model.specs.Arms.{no_arm}
+use Rattle.gate_model.specs.States.{State, arm_at, phase_at, with_arm}
+use Rattle.gate_model.specs.Calls.{with_visit, arm_after, stepped, after, run}
+use Rattle.gate_model.specs.History.{is_in, step_of, ends_doorway, goes_inside, entries_before, latest_lost, count_on, latest_idle}
+use Rattle.gate_model.specs.declared.arm.Arm.{Arm}
+use Rattle.gate_model.specs.declared.call.Call.{Call}
+use Rattle.gate_model.proofs.Bools.{by, is_true, T_or_left}
+use Rattle.gate_model.specs.Table.{Table}
+use Rattle.gate_model.specs.Phases.{same_phase}
+use Rattle.gate_model.specs.Tallies.{with_row, counted, is_idle, tallied}
+use Rattle.gate_model.specs.Rules.{Phased, ShowsRules}
+use Rattle.gate_model.specs.declared.phase.Phase.{Phase}
+use Rattle.gate_model.specs.declared.phase.Phase.TheVariants as P
+use Rattle.gate_model.proofs.Bounds.{all_there}
+use Rattle.gate_model.proofs.Effects.{begins, admits, leaves, Does, nothing, visits, steps, does, no_step}
+use Rattle.gate_model.proofs.SameButRow.{tallied_table}
 use Rattle.overtaking.proofs.Entries.{Overtaken, overtaken_call, bound, waiting_call}
-use Rattle.door.proofs.Unaltered.{after_n}
+use Rattle.gate_model.proofs.Unaltered.{after_n}
 
 -- what a call makes of the count r of b in w's latest wait, and of the count k since w ended its doorway:
 -- w ends its doorway by it (E), waited before it (V) and after it (W), or goes inside by it (I); b goes inside by it (G)

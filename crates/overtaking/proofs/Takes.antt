@@ -2,21 +2,21 @@
 use Rattle.std.proofs.Common.{ℕ, ◌+◌, ◌≤◌, Bool, false, cond, not, ◌&&◌, ◌||◌, T, eqb, ◌⊎◌, List, [], ◌∷◌, sym, ⊎_elim, arith}
 use Rattle.std.proofs.lemmas.Bool.{cases_eq}
 use Rattle.std.proofs.lemmas.Bool.Decides.{nat_tests}
-use Rattle.door.specs.Table.{Table}
-use Rattle.door.specs.States.{State, made}
-use Rattle.door.specs.Calls.{after, run}
-use Rattle.door.specs.History.{past_doorway, goes_inside, latest_idle}
-use Rattle.door.specs.Meaning.{Stage, at, Meaning, meaning_of, arm_of}
-use Rattle.door.specs.Rules.{Phased, ShowsRules}
-use Rattle.door.specs.Takes.{called, takes, Event, calls_of, takes_on, TakesOnce, TakingBound}
-use Rattle.door.specs.declared.phase.Phase.TheVariants as P
-use Rattle.door.proofs.Changes.{Goes, Change, ends_doorway as ends, goes_inside as enters}
-use Rattle.door.proofs.Bools.{same}
+use Rattle.gate_model.specs.Table.{Table}
+use Rattle.gate_model.specs.States.{State, made}
+use Rattle.gate_model.specs.Calls.{after, run}
+use Rattle.gate_model.specs.History.{past_doorway, goes_inside, latest_idle}
+use Rattle.gate_model.specs.Meaning.{Stage, at, Meaning, meaning_of, arm_of}
+use Rattle.gate_model.specs.Rules.{Phased, ShowsRules}
+use Rattle.gate_model.specs.Takes.{called, takes, Event, calls_of, takes_on, TakesOnce, TakingBound}
+use Rattle.gate_model.specs.declared.phase.Phase.TheVariants as P
+use Rattle.gate_model.proofs.Changes.{Goes, Change, ends_doorway as ends, goes_inside as enters}
+use Rattle.gate_model.proofs.Bools.{same_bit}
 use Rattle.overtaking.proofs.Bound.{arm_range, past_range}
 use Rattle.overtaking.proofs.Overtaking.{Inv, is_past, left, count, remaining, goes_at, still, idle_stays, remaining_change}
-use Rattle.door.proofs.Meant.{phase_meant, change_at, start_rests}
+use Rattle.gate_model.proofs.Meant.{phase_meant, change_at, start_rests}
 use Rattle.overtaking.proofs.Entries.{ends_shown, enters_shown, Overtaken, overtaken_call, side_then, start_overtaken}
-use Rattle.door.proofs.Unaltered.{after_n}
+use Rattle.gate_model.proofs.Unaltered.{after_n}
 
 -- 1 where an arm inside may still take: it has gone inside and not taken since
 abbrev room : Bool → Stage → ℕ
@@ -58,8 +58,8 @@ module _ (w b : ℕ) (m m' : Meaning) (i : ℕ) (c : Change m m' i) (own : Inv m
       let x = count (λ s. T (is_past s (m.arms w))) (λ s. T (is_past s (m'.arms w))) (to_take w b m may) (to_take w b m' may')
       (ends w m m') false (at P.I (m.arms b)) o false k
       (λ s h. let y = L s h in (y.0, y.1, λ t. absurd t))
-      (λ s. let y = left_room (same m'.bit s) s may' (m'.arms b) in grind (arith, nat_tests))
-      (λ t s. (λ d. let y = left_room (same m'.bit s) s may' (m'.arms b) in let z = idle_stays w b m m' i c own t d in grind (arith, nat_tests), λ t. absurd t))
+      (λ s. let y = left_room (same_bit m'.bit s) s may' (m'.arms b) in grind (arith, nat_tests))
+      (λ t s. (λ d. let y = left_room (same_bit m'.bit s) s may' (m'.arms b) in let z = idle_stays w b m m' i c own t d in grind (arith, nat_tests), λ t. absurd t))
       (λ d s h.
       let y = remaining_change w b m m' i c own d s h in
       (y.0, room_change (remaining w b m s) (remaining w b m' s) (enters b m m') (at P.F (m.arms b)) (at P.F (m'.arms b)) may y.1 y.2 was_inside, λ t. absurd t, λ t. absurd t))

@@ -3,34 +3,34 @@ use Rattle.std.proofs.Common.{◌≡◌, ℕ, zero, suc, ◌+◌, ◌*◌, ◌-�
 use Rattle.std.proofs.lemmas.Bool.{cases_eq}
 use Rattle.std.proofs.lemmas.Bool.Decides.{nat_tests}
 use Rattle.std.proofs.lemmas.List.{get_or-set_same, get_or-set_other}
-use Rattle.door.specs.Limits.{arm_limit, visit_limit}
-use Rattle.door.specs.Phases.{same_phase}
-use Rattle.door.specs.Registers.{group, regs_after, turns_bit}
-use Rattle.door.specs.Making.{Making}
-use Rattle.door.specs.Table.{Table}
-use Rattle.door.specs.States.{State, made, arm_at, phase_at}
-use Rattle.door.specs.Calls.{refusal_of, step_refusal, access_at, stepped, after, unless, run}
-use Rattle.door.specs.History.{is_in, step_of}
-use Rattle.door.specs.Law.{Origin, IsReached}
-use Rattle.door.specs.Meaning.{Stage, resting, turned, at, meaning_of, arm_of}
-use Rattle.door.specs.Rules.{Phased, Always, Keeps, ShowsRules, ShowsBits, AreBits}
-use Rattle.door.specs.Turns.{turns, turns_in, turns_by, TurnsTold, TurnsLaw}
-use Rattle.door.specs.declared.access.Access.{Access}
-use Rattle.door.specs.declared.arm.Arm.{Arm}
-use Rattle.door.specs.declared.call.Call.{Call}
-use Rattle.door.specs.declared.call.Call.TheVariants.{Step}
-use Rattle.door.specs.declared.phase.Phase.{Phase}
-use Rattle.door.specs.declared.phase.Phase.TheVariants as P
-use Rattle.door.proofs.Bools.{test, clash, none_of, is_true, is_false}
-use Rattle.door.proofs.Accepted.{unless_both, known_arm, arm_in}
-use Rattle.door.proofs.Always.{at_origin, at_most, true_at}
-use Rattle.door.proofs.Bounds.{bounded, bounded_at, all_there}
-use Rattle.door.proofs.Changes.{Goes, keeps_of}
-use Rattle.door.proofs.Effects.{begins, admits, leaves}
-use Rattle.door.proofs.Meant.{phase_meant, two_phases, change_at, start_rests}
-use Rattle.door.proofs.Origins.{origin_made, origin_after}
-use Rattle.door.proofs.Records.{Became, stays, visited, moved_on, became_by}
-use Rattle.door.proofs.Unaltered.{after_n, run_n}
+use Rattle.gate_model.specs.Limits.{arm_limit, visit_limit}
+use Rattle.gate_model.specs.Phases.{same_phase}
+use Rattle.gate_model.specs.Registers.{group, regs_after, turns_bit}
+use Rattle.gate_model.specs.Making.{Making}
+use Rattle.gate_model.specs.Table.{Table}
+use Rattle.gate_model.specs.States.{State, made, arm_at, phase_at}
+use Rattle.gate_model.specs.Calls.{refusal_of, step_refusal, access_at, stepped, after, unless, run}
+use Rattle.gate_model.specs.History.{is_in, step_of}
+use Rattle.gate_model.specs.Law.{Origin, IsReached}
+use Rattle.gate_model.specs.Meaning.{Stage, resting, turned, at, meaning_of, arm_of}
+use Rattle.gate_model.specs.Rules.{Phased, Always, Keeps, ShowsRules, ShowsBits, AreBits}
+use Rattle.gate_model.specs.Turns.{turns, turns_in, turns_by, TurnsTold, TurnsLaw}
+use Rattle.gate_model.specs.declared.access.Access.{Access}
+use Rattle.gate_model.specs.declared.arm.Arm.{Arm}
+use Rattle.gate_model.specs.declared.call.Call.{Call}
+use Rattle.gate_model.specs.declared.call.Call.TheVariants.{Step}
+use Rattle.gate_model.specs.declared.phase.Phase.{Phase}
+use Rattle.gate_model.specs.declared.phase.Phase.TheVariants as P
+use Rattle.gate_model.proofs.Bools.{test, clash, none_of, is_true, is_false}
+use Rattle.gate_model.proofs.Accepted.{unless_both, known_arm, arm_in}
+use Rattle.gate_model.proofs.Always.{at_origin, at_most, true_at}
+use Rattle.gate_model.proofs.Bounds.{bounded, bounded_at, all_there}
+use Rattle.gate_model.proofs.Changes.{Goes, keeps_of}
+use Rattle.gate_model.proofs.Effects.{begins, admits, leaves}
+use Rattle.gate_model.proofs.Meant.{phase_meant, two_phases, change_at, start_rests}
+use Rattle.gate_model.proofs.Origins.{origin_made, origin_after}
+use Rattle.gate_model.proofs.Records.{Became, stays, visited, moved_on, became_by}
+use Rattle.gate_model.proofs.Unaltered.{after_n, run_n}
 
 -- an access turns the bit exactly if it changes register 0
 turned_so : (high : ℕ) (regs : List ℕ) (a : Access) → turns_bit high regs a ≡ not (eqb (get_or (regs_after high regs a) group 0) (get_or regs group 0))

@@ -1,8 +1,8 @@
-ghost use Rattle.door.specs.Doorways.{ShowsReads};
-ghost use Rattle.door.specs.Law.{PassingBound, ReadingBound};
-ghost use Rattle.door.specs.Rules.{Phased, ShowsRules};
-ghost use Rattle.door.specs.Table.{Table};
-ghost use Rattle.door.specs.Takes.{TakingBound};
+ghost use Rattle.gate_model.specs.Doorways.{ShowsReads};
+ghost use Rattle.gate_model.specs.Law.{PassingBound, ReadingBound};
+ghost use Rattle.gate_model.specs.Rules.{Phased, ShowsRules};
+ghost use Rattle.gate_model.specs.Table.{Table};
+ghost use Rattle.gate_model.specs.Takes.{TakingBound};
 
 /// How often an arm is passed, of any door with positions P: it follows from the rules, and from where an arm rests, begins and leaves.
 /// The call does nothing; its contract is the law.

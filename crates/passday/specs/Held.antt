@@ -1,7 +1,7 @@
 -- Passes that a host may hold or not, as it takes and spends them.
 use Rattle.std.specs.Prelude.{◌≡◌, ℕ, Bool, true, not, ◌&&◌, ◌||◌, Some, None, Option, IfSome}
-use Rattle.door.specs.Table.{Table}
-use Rattle.door.specs.States.{State}
+use Rattle.gate_model.specs.Table.{Table}
+use Rattle.gate_model.specs.States.{State}
 use Rattle.gate.specs.Passes.{passes_out, names}
 use Rattle.gate.specs.declared.pass.Pass.{Pass}
 

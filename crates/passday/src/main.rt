@@ -6,9 +6,9 @@ ghost use Rattle.gate.specs.Passes.{passes_out};
 ghost use Rattle.passday.specs.Held.{IsHeld, out_with, out_without};
 
 use bank::{Bank, BitBank};
-use door::Phase;
 use doors::{Door, ThreeBits};
 use gate::{Gate, Pass};
+use gate_model::Phase;
 
 // How many steps an arm is given in a row: more than it takes to go inside where nothing is in its way.
 const STEPS: usize = 60;

@@ -1,4 +1,4 @@
-mod Called
+mod ListsOfCalls
 mod Filled
 mod Noted
-mod Turned
+mod TurnByPhase

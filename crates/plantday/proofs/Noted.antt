@@ -1,10 +1,10 @@
 -- What is noted of an arm that goes inside, of one that is let go, and of the turns.
 use Rattle.std.proofs.Common.{◌≡◌, ℕ, ◌+◌, ◌<◌, Bool, false, Ok, Result, IsTrue, IfOk, arith}
 use Rattle.std.proofs.lemmas.Bool.Decides.{nat_tests}
-use Rattle.door.specs.States.{State}
-use Rattle.door.specs.Table.{Table}
-use Rattle.door.specs.declared.phase.Phase.{Phase}
-use Rattle.door.specs.declared.phase.Phase.TheVariants as P
+use Rattle.gate_model.specs.States.{State}
+use Rattle.gate_model.specs.Table.{Table}
+use Rattle.gate_model.specs.declared.phase.Phase.{Phase}
+use Rattle.gate_model.specs.declared.phase.Phase.TheVariants as P
 use Rattle.gate.specs.Answers.{look_answer, most_answer}
 use Rattle.gate.specs.declared.gate.View.{View}
 use Rattle.plantday.specs.Records.{plant_arms, with_entry, noted}
@@ -15,8 +15,8 @@ pub known_is : {P E : Type 0} (answer : Result P E) (pass shown : P) (known : Bo
 known_is answer pass shown known knows given is same told missed = grind arith
 
 module _ {At : Type 0} (door : Table At) where
-  pub looked : (s : State At) (i : ℕ) (view : View) → look_answer door s i ≡ Ok view → view.turns ≡ s.turns
-  looked s i view told = grind arith
+  pub look_turns : (s : State At) (i : ℕ) (view : View) → look_answer door s i ≡ Ok view → view.turns ≡ s.turns
+  look_turns s i view told = grind arith
 
   pub entry_noted : (s : State At) (k most : ℕ) (from to : Phase) (r new : Record) → from ≡ P.W → to ≡ P.F → k < plant_arms → s.n ≡ plant_arms
       → most_answer door s (k + 1) ≡ Ok most → new ≡ with_entry k most r → new ≡ noted door s k from to r

@@ -1,11 +1,11 @@
 -- What a day comes to for each arm, and how its rounds are counted.
 use Rattle.std.specs.Prelude.{ℕ, ◌+◌, ◌-◌, ◌^◌, min, max, Bool, false, if◌then◌else◌, not, List, map, replicate, slice_index, slice_set}
 use Rattle.std.specs.List.{list_any, range_with_len}
-use Rattle.door.specs.History.{is_in}
-use Rattle.door.specs.States.{State, is_arm, arm_at}
-use Rattle.door.specs.Table.{Table}
-use Rattle.door.specs.declared.phase.Phase.{Phase}
-use Rattle.door.specs.declared.phase.Phase.TheVariants as P
+use Rattle.gate_model.specs.History.{is_in}
+use Rattle.gate_model.specs.States.{State, is_arm, arm_at}
+use Rattle.gate_model.specs.Table.{Table}
+use Rattle.gate_model.specs.declared.phase.Phase.{Phase}
+use Rattle.gate_model.specs.declared.phase.Phase.TheVariants as P
 use Rattle.gate.specs.Answers.{largest_count}
 use Rattle.plantday.specs.declared.record.Record.{Record}
 
@@ -14,12 +14,12 @@ abbrev pub plant_arms : ℕ
 plant_arms = 6
 
 -- one more; a count of 32 bits stops at its highest
-abbrev pub more : ℕ → ℕ
-more n = min (n + 1) (2 ^ 32 - 1)
+abbrev pub counted_up : ℕ → ℕ
+counted_up n = min (n + 1) (2 ^ 32 - 1)
 
 -- the day begins
-abbrev pub fresh : Record
-fresh =
+abbrev pub empty_record : Record
+empty_record =
     record {
       delivered = replicate plant_arms 0;
       passed = replicate plant_arms 0;
@@ -32,11 +32,11 @@ fresh =
 
 -- a reading of arm k + 1 is in the table
 abbrev pub with_delivery : ℕ → Record → Record
-with_delivery k r = record r { delivered = slice_set r.delivered k (more (slice_index r.delivered k)) }
+with_delivery k r = record r { delivered = slice_set r.delivered k (counted_up (slice_index r.delivered k)) }
 
 -- arm k + 1 ended its doorway: its wait begins with the next round
 abbrev pub with_wait : ℕ → Record → Record
-with_wait k r = record r { since = slice_set r.since k (more r.rounds) }
+with_wait k r = record r { since = slice_set r.since k (counted_up r.rounds) }
 
 -- arm k + 1 went inside, past which others went `most` times: the longest wait and the largest count are kept
 abbrev pub with_entry : ℕ → ℕ → Record → Record
@@ -63,7 +63,7 @@ module _ {At : Type 0} (door : Table At) where
   abbrev pub with_move : State At → ℕ → Record → Record
   with_move s k r =
       let left = slice_set r.due k false in
-      (if some_due left then with_round left r.rounds r else with_round (map (is_busy s) (range_with_len 0 plant_arms)) (more r.rounds) r)
+      (if some_due left then with_round left r.rounds r else with_round (map (is_busy s) (range_with_len 0 plant_arms)) (counted_up r.rounds) r)
 
   -- arm k + 1 was inside, and its pass not out: its reading was delivered, and it left; the gate is s then
   abbrev pub with_leave : State At → ℕ → Record → Record

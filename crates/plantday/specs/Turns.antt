@@ -1,11 +1,11 @@
 -- What a turn does to the plant, and a day of turns.
 use Rattle.std.specs.Prelude.{ℕ, zero, suc, ◌+◌, ◌-◌, if◌then◌else◌, ◌==◌, nat_lt}
-use Rattle.door.specs.Calls.{arm_after, after}
-use Rattle.door.specs.States.{State, arm_at, phase_at}
-use Rattle.door.specs.Table.{Table}
-use Rattle.door.specs.declared.call.Call.TheVariants.{Begin as begin, Step as step, Admit as admit, Leave as leave}
-use Rattle.door.specs.declared.phase.Phase.{Phase}
-use Rattle.door.specs.declared.phase.Phase.TheVariants as P
+use Rattle.gate_model.specs.Calls.{arm_after, after}
+use Rattle.gate_model.specs.States.{State, arm_at, phase_at}
+use Rattle.gate_model.specs.Table.{Table}
+use Rattle.gate_model.specs.declared.call.Call.TheVariants.{Begin as begin, Step as step, Admit as admit, Leave as leave}
+use Rattle.gate_model.specs.declared.phase.Phase.{Phase}
+use Rattle.gate_model.specs.declared.phase.Phase.TheVariants as P
 use Rattle.plantday.specs.Dice.{rolled, face}
 use Rattle.plantday.specs.Records.{plant_arms, with_move, with_leave, noted}
 use Rattle.plantday.specs.declared.record.Record.{Record}
@@ -52,22 +52,22 @@ module _ {At : Type 0} (door : Table At) where
   let_go s k = after door (after door s (admit (k + 1))) (leave s.number (k + 1))
 
   -- its reading is delivered meanwhile
-  abbrev pub visited : ℕ → Plant At → Plant At
-  visited k p = let s : State At = let_go p.gate k in record p { gate = s; notes = with_leave door s k p.notes }
+  abbrev pub plant_visited : ℕ → Plant At → Plant At
+  plant_visited k p = let s : State At = let_go p.gate k in record p { gate = s; notes = with_leave door s k p.notes }
 
   -- the phase to which a step takes arm k + 1
   abbrev pub phase_ahead : State At → ℕ → Phase
   phase_ahead s k = door.phase (arm_after door s (k + 1)).position
 
   -- arm k + 1, in this phase, steps: that is noted, and that it moved
-  abbrev pub stepped : ℕ → Phase → Plant At → Plant At
-  stepped k from p = let s : State At = after door p.gate (step (k + 1)) in record p { gate = s; notes = with_move door s k (noted door s k from (phase_ahead p.gate k) p.notes) }
+  abbrev pub plant_stepped : ℕ → Phase → Plant At → Plant At
+  plant_stepped k from p = let s : State At = after door p.gate (step (k + 1)) in record p { gate = s; notes = with_move door s k (noted door s k from (phase_ahead p.gate k) p.notes) }
 
   -- a turn of arm k + 1: what its phase asks for
   abbrev pub turned_in : Phase → ℕ → Plant At → Plant At
   turned_in P.I k p = begun_by_chance k p
-  turned_in P.F k p = if (arm_at door p.gate (k + 1)).out then p else visited k p
-  turned_in from k p = stepped k from p
+  turned_in P.F k p = if (arm_at door p.gate (k + 1)).out then p else plant_visited k p
+  turned_in from k p = plant_stepped k from p
 
   abbrev pub turned : ℕ → Plant At → Plant At
   turned k p = turned_in (phase_at door p.gate (k + 1)) k p

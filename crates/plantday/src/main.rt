@@ -5,10 +5,10 @@
 
 ghost use Rattle.std.specs.Prelude.{◌≡◌, ℕ, ◌+◌, ◌<◌, length, replicate, None};
 ghost use Rattle.bank.specs.Lent.{unlogged};
-ghost use Rattle.door.specs.Calls.{refusal_of};
-ghost use Rattle.door.specs.Making.{arms_for};
-ghost use Rattle.door.specs.States.{made};
-ghost use Rattle.door.specs.declared.call.Call.TheVariants.{Admit};
+ghost use Rattle.gate_model.specs.Calls.{refusal_of};
+ghost use Rattle.gate_model.specs.Making.{arms_for};
+ghost use Rattle.gate_model.specs.States.{made};
+ghost use Rattle.gate_model.specs.declared.call.Call.TheVariants.{Admit};
 ghost use Rattle.plantday.specs.Day.{of_plant, Called, FairDay, HoldsFairDay};
 ghost use Rattle.plantday.specs.Records.{plant_arms, with_leave, noted};
 ghost use Rattle.plantday.specs.Turns.{plant, picked, dice_after_pick, let_go, turned, day_of, notes_of_day};
@@ -19,9 +19,9 @@ mod record;
 use crate::dice::Dice;
 use crate::record::{ARMS, Record};
 use bank::{Bank, ByteBank};
-use door::Phase;
 use doors::{Door, FourValued, ThreeBits};
 use gate::Gate;
+use gate_model::Phase;
 use std::marker::PhantomData;
 
 const SEED: u64 = 20_261_117;

@@ -1,11 +1,11 @@
 ghost use Rattle.std.specs.Prelude.{◌≡◌, ◌<◌, map};
 ghost use Rattle.std.specs.List.{range_with_len};
-ghost use Rattle.plantday.specs.Records.{plant_arms, fresh, with_delivery, with_wait, with_entry, with_move, some_due, is_busy};
+ghost use Rattle.plantday.specs.Records.{plant_arms, empty_record, with_delivery, with_wait, with_entry, with_move, some_due, is_busy};
 
 use bank::Bank;
-use door::Phase;
 use doors::Door;
 use gate::Gate;
+use gate_model::Phase;
 
 // How many arms the plant has.
 pub const ARMS: usize = 6;
@@ -30,7 +30,7 @@ pub struct Record {
 
 impl Record {
     pub fn new() -> Record
-        ensures { result ≡ fresh }
+        ensures { result ≡ empty_record }
     {
         Record {
             delivered: [0; ARMS],

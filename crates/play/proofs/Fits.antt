@@ -4,17 +4,17 @@ use Rattle.std.specs.Fmt.{digits}
 use Rattle.std.proofs.lemmas.Bool.{cases_lt, leb-true, ltb-true}
 use Rattle.std.proofs.lemmas.Fmt.{length-decimal-le}
 use Rattle.std.proofs.lemmas.Nat.{mul-le}
-use Rattle.door.specs.Limits.{arm_limit, tally_limit}
-use Rattle.door.specs.Phases.{letter_of}
-use Rattle.door.specs.Table.{Table}
-use Rattle.door.specs.Arms.{side_of}
-use Rattle.door.specs.States.{State, arm_at, phase_at, bit_of}
-use Rattle.door.specs.Law.{IsReached}
-use Rattle.door.specs.Rules.{AreBits, ShowsBits}
-use Rattle.door.specs.declared.phase.Phase.{Phase}
-use Rattle.door.proofs.Accepted.{arm_is}
-use Rattle.door.proofs.Always.{at_origin, at_most}
-use Rattle.door.proofs.Bounds.{Bounded, bounded_at}
+use Rattle.gate_model.specs.Limits.{arm_limit, tally_limit}
+use Rattle.gate_model.specs.Phases.{letter_of}
+use Rattle.gate_model.specs.Table.{Table}
+use Rattle.gate_model.specs.Arms.{side_of}
+use Rattle.gate_model.specs.States.{State, arm_at, phase_at, bit_of}
+use Rattle.gate_model.specs.Law.{IsReached}
+use Rattle.gate_model.specs.Rules.{AreBits, ShowsBits}
+use Rattle.gate_model.specs.declared.phase.Phase.{Phase}
+use Rattle.gate_model.proofs.Accepted.{arm_is}
+use Rattle.gate_model.proofs.Always.{at_origin, at_most}
+use Rattle.gate_model.proofs.Bounds.{Bounded, bounded_at}
 use Rattle.play.specs.Limits.{report_room}
 use Rattle.play.specs.Text.{lines}
 use Rattle.gate.specs.Answers.{largest_count}

@@ -1,2 +1,2 @@
 pub mod Fits
-pub mod Elsewhere
+pub mod OtherBank

@@ -1,10 +1,10 @@
 -- What playing a file comes to.
 use Rattle.std.specs.Prelude.{◌≡◌, ℕ, ◌≤◌, IfOk, List, [], length, Ok, Err, Option, Result, if◌then◌else◌, nat_le}
 use Rattle.bank.specs.Lent.{Lent}
-use Rattle.door.specs.Making.{Making, arms_for}
-use Rattle.door.specs.Table.{Table}
-use Rattle.door.specs.States.{State, made}
-use Rattle.door.specs.declared.refusal.Refusal.{Refusal}
+use Rattle.gate_model.specs.Making.{Making, arms_for}
+use Rattle.gate_model.specs.Table.{Table}
+use Rattle.gate_model.specs.States.{State, made}
+use Rattle.gate_model.specs.declared.refusal.Refusal.{Refusal}
 use Rattle.obeying.specs.Obeying.{obeyed_all, refusals, each_refusal}
 use Rattle.schedule.specs.FileLimits.{file_limit}
 use Rattle.schedule.specs.Reading.{Contents, says}

@@ -1,8 +1,8 @@
 -- The text of a report and of a fault, and the memory that takes it.
 use Rattle.std.specs.Prelude.{ℕ, ◌+◌, Bool, if◌then◌else◌, List, ◌++◌, length, Some, None, Ok, Err, codes, decimal, Option, Result, nat_le}
-use Rattle.door.specs.Phases.{letter_of}
-use Rattle.door.specs.Table.{Table}
-use Rattle.door.specs.States.{State, arm_at, phase_at, bit_of}
+use Rattle.gate_model.specs.Phases.{letter_of}
+use Rattle.gate_model.specs.Table.{Table}
+use Rattle.gate_model.specs.States.{State, arm_at, phase_at, bit_of}
 use Rattle.gate.specs.Answers.{largest_count}
 use Rattle.schedule.specs.Faults.{fault_number, fault_place, fault_order, fault_layer}
 use Rattle.schedule.specs.declared.fault.Layer.{Layer}

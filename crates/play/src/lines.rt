@@ -1,6 +1,6 @@
 ghost use Rattle.std.specs.Prelude.{◌≡◌, ◌<◌, ◌≤◌, ◌++◌, length, codes, decimal};
-ghost use Rattle.door.specs.Limits.{arm_limit};
-ghost use Rattle.door.specs.Phases.{letter_of};
+ghost use Rattle.gate_model.specs.Limits.{arm_limit};
+ghost use Rattle.gate_model.specs.Phases.{letter_of};
 ghost use Rattle.play.specs.Reports.{side_text, arm_line, first_line};
 
 use arrayvec::ArrayString;

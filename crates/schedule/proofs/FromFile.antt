@@ -9,15 +9,15 @@ use Rattle.schedule.specs.declared.fault.ScheduleFault.{ScheduleFault}
 use Rattle.schedule.specs.Laws.{bytes_of, IsBytes, ReadsLawful}
 use Rattle.schedule.specs.FileLimits.{file_limit, largest_arm}
 use Rattle.schedule.specs.Numbers.{groups}
-use Rattle.schedule.specs.Orders.{order_number, arm_of}
+use Rattle.schedule.specs.Orders.{order_number, arm_of_order}
 use Rattle.schedule.specs.Reading.{Contents, arms_from, order_from, orders_from, says}
 use Rattle.schedule.specs.Writing.{order_bytes}
 use Rattle.schedule.proofs.Groups.{Near, near_number, number_of_order, groups_of_number}
-use Rattle.schedule.proofs.Steps.{span, number_ends, order_parts, order_ends, orders_step, orders_fault, orders_end}
-use Rattle.schedule.proofs.Told.{first_number, unpreceded}
+use Rattle.schedule.proofs.OneMoreOrder.{span, number_ends, order_parts, order_ends, orders_step, orders_fault, orders_end}
+use Rattle.schedule.proofs.ReadSoFar.{first_number, unpreceded}
 
-near_both : (o : Order) (os : List Order) → arm_of o ≤ largest_arm → Near os → Near (o ∷ os)
-near_both o os h t = All-cons (λ x. arm_of x ≤ largest_arm) o os h t
+near_both : (o : Order) (os : List Order) → arm_of_order o ≤ largest_arm → Near os → Near (o ∷ os)
+near_both o os h t = All-cons (λ x. arm_of_order x ≤ largest_arm) o os h t
 
 pub record Listed (bytes : List ℕ) (os : List Order) : Type 0 where
   pub near : Near os
@@ -25,7 +25,7 @@ pub record Listed (bytes : List ℕ) (os : List Order) : Type 0 where
 
 -- the first order of some bytes
 first_order : (place count : ℕ) (bytes : List ℕ) (p : Placed) → IsBytes bytes → order_from place count bytes ≡ Ok p
-    → (arm_of p.order ≤ largest_arm) × (bytes ≡ groups (order_number p.order) ++ drop (span bytes) bytes)
+    → (arm_of_order p.order ≤ largest_arm) × (bytes ≡ groups (order_number p.order) ++ drop (span bytes) bytes)
 first_order place count bytes p b e =
     let q = order_parts place count bytes p e in
     let g = groups_of_number place bytes q.n b q.read in
@@ -56,7 +56,7 @@ one_back fuel place count x bytes os p back l b e r =
 orders_back : (fuel : ℕ) → Back fuel
 orders_back fuel place count [] os l b e =
     let i : [] ≡ os = let k = orders_end place count in cc in
-    subst (Listed []) i (record { near = All-nil (λ o. arm_of o ≤ largest_arm); are = refl })
+    subst (Listed []) i (record { near = All-nil (λ o. arm_of_order o ≤ largest_arm); are = refl })
 orders_back zero place count (x ∷ bytes) os l b e = absurd (omega arith)
 orders_back (suc fuel) place count (x ∷ bytes) os l b e =
     by (order_from place count (x ∷ bytes)) refl (λ q k ys zs. orders_back fuel q k ys zs)

@@ -8,19 +8,19 @@ use Rattle.schedule.specs.declared.parts.Placed.{Placed}
 use Rattle.schedule.specs.Laws.{IsBytes, ReadsBack}
 use Rattle.schedule.specs.FileLimits.{arm_limit, largest_arm}
 use Rattle.schedule.specs.Numbers.{groups}
-use Rattle.schedule.specs.Orders.{order_number, arm_of}
+use Rattle.schedule.specs.Orders.{order_number, arm_of_order}
 use Rattle.schedule.specs.Reading.{arms_from, order_from, orders_from}
 use Rattle.schedule.specs.Writing.{order_bytes}
 use Rattle.schedule.proofs.Groups.{ends, Near, number_of_groups, span_of_groups, groups_bytes, order_of_number, number_near}
-use Rattle.schedule.proofs.Steps.{span, orders_step, orders_end}
+use Rattle.schedule.proofs.OneMoreOrder.{span, orders_step, orders_end}
 
-near_first : (o : Order) (os : List Order) → Near (o ∷ os) → arm_of o ≤ largest_arm
-near_first o os h = All-head (λ x. arm_of x ≤ largest_arm) o os h
+near_first : (o : Order) (os : List Order) → Near (o ∷ os) → arm_of_order o ≤ largest_arm
+near_first o os h = All-head (λ x. arm_of_order x ≤ largest_arm) o os h
 
 near_rest : (o : Order) (os : List Order) → Near (o ∷ os) → Near os
-near_rest o os h = All-tail (λ x. arm_of x ≤ largest_arm) o os h
+near_rest o os h = All-tail (λ x. arm_of_order x ≤ largest_arm) o os h
 
-order_read : (place count : ℕ) (o : Order) (rest : List ℕ) → arm_of o ≤ largest_arm
+order_read : (place count : ℕ) (o : Order) (rest : List ℕ) → arm_of_order o ≤ largest_arm
     → order_from place count (groups (order_number o) ++ rest) ≡ Ok (record { order = o; next = place + length (groups (order_number o)) })
 order_read place count o rest h =
     let n = number_of_groups place (order_number o) rest (number_near o h) in

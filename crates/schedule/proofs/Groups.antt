@@ -10,8 +10,8 @@ use Rattle.schedule.specs.declared.number.Number.{Number}
 use Rattle.schedule.specs.FileLimits.{largest_number, largest_arm}
 use Rattle.schedule.specs.Laws.{IsBytes}
 use Rattle.schedule.specs.Numbers.{groups, number_from}
-use Rattle.schedule.specs.Orders.{order_number, order_of, arm_of}
-use Rattle.schedule.proofs.Steps.{span}
+use Rattle.schedule.specs.Orders.{order_number, order_of, arm_of_order}
+use Rattle.schedule.proofs.OneMoreOrder.{span}
 
 abbrev pub ends : ℕ → ℕ → Number
 ends value next = record { value = value; next = next }
@@ -41,19 +41,19 @@ groups_bytes k h =
 
 -- no arm is too far
 abbrev pub Near : List Order → Type 0
-Near os = All (λ o. arm_of o ≤ largest_arm) os
+Near os = All (λ o. arm_of_order o ≤ largest_arm) os
 
 pub order_of_number : (o : Order) → order_of (order_number o) ≡ Some o
 order_of_number (Begin arm) = grind (arith, nat_tests)
 order_of_number (Step arm) = grind (arith, nat_tests)
 order_of_number (Leave arm) = grind (arith, nat_tests)
 
-pub number_near : (o : Order) → arm_of o ≤ largest_arm → order_number o ≤ largest_number
+pub number_near : (o : Order) → arm_of_order o ≤ largest_arm → order_number o ≤ largest_number
 number_near (Begin arm) h = omega arith
 number_near (Step arm) h = omega arith
 number_near (Leave arm) h = omega arith
 
-pub near_number : (o : Order) → order_number o ≤ largest_number → arm_of o ≤ largest_arm
+pub near_number : (o : Order) → order_number o ≤ largest_number → arm_of_order o ≤ largest_arm
 near_number (Begin arm) h = omega arith
 near_number (Step arm) h = omega arith
 near_number (Leave arm) h = omega arith

@@ -9,7 +9,7 @@ use Rattle.schedule.specs.declared.writer.WriteRefusal.{WriteRefusal}
 use Rattle.schedule.specs.Laws.{bytes_of, IsLawful, WritesLawful, OneFile, Inverse, WasRead, WasWritten}
 use Rattle.schedule.specs.FileLimits.{largest_number, largest_arm}
 use Rattle.schedule.specs.Memory.{put_into}
-use Rattle.schedule.specs.Orders.{order_number, arm_of}
+use Rattle.schedule.specs.Orders.{order_number, arm_of_order}
 use Rattle.schedule.specs.Reading.{Contents, contents, says, heading}
 use Rattle.schedule.specs.Writing.{file_bytes, are_small, file_of, length_of}
 use Rattle.schedule.proofs.Groups.{Near, number_near, near_number}
@@ -21,9 +21,9 @@ one_file c l file b e = (reads_lawful file b c e).1
 
 -- the writer
 small_is_near : (os : List Order) → Decides (are_small os) (Near os)
-small_is_near os = Decides-by_and (λ o. leb (order_number o) largest_number) (λ o. arm_of o ≤ largest_arm) are_small each refl (λ _ _. refl) os
+small_is_near os = Decides-by_and (λ o. leb (order_number o) largest_number) (λ o. arm_of_order o ≤ largest_arm) are_small each refl (λ _ _. refl) os
   where
-    each : (o : Order) → Decides (leb (order_number o) largest_number) (arm_of o ≤ largest_arm)
+    each : (o : Order) → Decides (leb (order_number o) largest_number) (arm_of_order o ≤ largest_arm)
     each o = (λ t. near_number o (leb-true (order_number o) largest_number t), λ h. le-leb (order_number o) largest_number (number_near o h))
 
 pub writes_lawful : WritesLawful

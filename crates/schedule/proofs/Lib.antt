@@ -5,6 +5,6 @@ pub mod FromList
 pub mod Groups
 pub mod Inverse
 pub mod Puts
-pub mod Steps
-pub mod Told
-pub mod Written
+pub mod OneMoreOrder
+pub mod ReadSoFar
+pub mod OneMoreNumber

@@ -1,6 +1,6 @@
 -- The limits of a schedule file.
 use Rattle.std.specs.Prelude.{ℕ, Bool, ◌&&◌, nat_le}
-use Rattle.door.specs.Limits.{arm_limit as gate_arms}
+use Rattle.gate_model.specs.Limits.{arm_limit as gate_arms}
 
 -- a file has at most as many arms as a gate
 abbrev pub arm_limit : ℕ

@@ -5,7 +5,7 @@ use Rattle.schedule.specs.declared.schedule_file.Heading.{Heading}
 use Rattle.schedule.specs.declared.fault.PlayFault.{PlayFault}
 use Rattle.schedule.specs.declared.writer.WriteRefusal.{WriteRefusal}
 use Rattle.schedule.specs.FileLimits.{arm_limit, file_limit, largest_arm}
-use Rattle.schedule.specs.Orders.{arm_of}
+use Rattle.schedule.specs.Orders.{arm_of_order}
 use Rattle.schedule.specs.Reading.{Contents, contents, says}
 use Rattle.schedule.specs.Writing.{file_bytes, file_of, write_answer, write_memory}
 
@@ -16,7 +16,7 @@ bytes_of c = file_bytes c.arms c.orders
 pub record IsLawful (c : Contents) : Type 0 where
   pub some_arms : 1 ≤ c.arms
   pub few_arms : c.arms ≤ arm_limit
-  pub near_arms : All (λ o. arm_of o ≤ largest_arm) c.orders
+  pub near_arms : All (λ o. arm_of_order o ≤ largest_arm) c.orders
   pub short : length (bytes_of c) ≤ file_limit
 
 -- a byte of a list is any number: that each is below 256 is said where it matters

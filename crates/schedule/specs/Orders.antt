@@ -8,10 +8,10 @@ order_number (Begin arm) = 4 * arm
 order_number (Step arm) = 4 * arm + 1
 order_number (Leave arm) = 4 * arm + 2
 
-abbrev pub arm_of : Order → ℕ
-arm_of (Begin arm) = arm
-arm_of (Step arm) = arm
-arm_of (Leave arm) = arm
+abbrev pub arm_of_order : Order → ℕ
+arm_of_order (Begin arm) = arm
+arm_of_order (Step arm) = arm
+arm_of_order (Leave arm) = arm
 
 -- kind 3 is no order
 abbrev pub order_of : ℕ → Option Order

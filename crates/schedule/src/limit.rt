@@ -1,5 +1,5 @@
 /// A file has at most as many arms as a gate.
-pub const ARM_LIMIT: usize = door::arm::ARM_LIMIT;
+pub const ARM_LIMIT: usize = gate_model::arm::ARM_LIMIT;
 
 /// A schedule file has at most this many bytes.
 pub const FILE_LIMIT: usize = 60_000;

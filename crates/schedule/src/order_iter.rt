@@ -58,7 +58,7 @@ impl<'a> Iterator for Orders<'a> {
 
     // The file was gone through before: a number of a known kind stands at the place, unless it is the end.
     #[inline(always)]
-    #[tactic(auto, using(crate::proofs::Steps::next_order))]
+    #[tactic(auto, using(crate::proofs::OneMoreOrder::next_order))]
     fn next(&mut self) -> Option<Order> {
         if self.at >= self.file.len() {
             return None;

@@ -52,7 +52,7 @@ impl<'a> Model for Schedule<'a> {
 }
 
 // How many orders stand from a place to the end of a file.
-#[tactic(auto, using(crate::proofs::Told::counting))]
+#[tactic(auto, using(crate::proofs::ReadSoFar::counting))]
 fn count_orders(file: &[u8], from: usize) -> Result<usize, ScheduleFault>
     ensures answer { result ≡ order_count (orders_from from 1 (drop from file.now)) }
     ensures few { IfOk result (λ n. n ≤ length file.now) }

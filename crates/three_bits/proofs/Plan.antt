@@ -2,8 +2,8 @@
 use Rattle.std.proofs.Common.{◌≡◌, ℕ, ◌+◌, ◌*◌, ◌<◌, Bool, false, T, refl, arith}
 use Rattle.machine.specs.Kinds as K
 use Rattle.machine.proofs.Machine.{Stance, idle, d1, d2, d3, d4, d5, waits, inside, x1, x2, phase, step_arm, may_step}
-use Rattle.mirror.proofs.Layouts.{cell, holds, deed, layout_of}
-use Rattle.mirror.proofs.Plans.{number_of, is_d2, is_x2, looks_at, access_for, seen, Plan}
+use Rattle.simulation.proofs.Layouts.{cell, holds, deed, layout_of}
+use Rattle.simulation.proofs.Plans.{side_number, is_d2, is_x2, looks_at, access_for, read_by_deed, Plan}
 use Rattle.three_bits.specs.declared.position.Doorway.TheVariants.{D1, D2, D3, D4, D5}
 use Rattle.three_bits.specs.declared.position.Place.{Place}
 use Rattle.three_bits.specs.declared.position.Place.TheVariants.{W1, W2, W3, W4, W5, W6}
@@ -13,7 +13,7 @@ use Rattle.three_bits.specs.declared.position.ThreeBits.TheVariants.{Idle, Doorw
 use Rattle.three_bits.specs.Positions.{three_bits, phase_of, reads as reads_here, is_turned as turned_here, index_of, access_of, next_of}
 
 -- where a stance stands
-abbrev place_of : K.Place → Place
+abbrev place_of : K.WaitingPlace → Place
 place_of K.W1 = W1
 place_of K.W2 = W2
 place_of K.W3 = W3
@@ -34,10 +34,10 @@ place (x1 s) = Leaving X1
 place (x2 s) = Leaving X2
 
 -- the table
-accesses : (i : ℕ) (a : Stance) → access_of i (number_of a) (place a) ≡ access_for (cell K.three_bits) (deed K.three_bits a) i
+accesses : (i : ℕ) (a : Stance) → access_of i (side_number a) (place a) ≡ access_for (cell K.three_bits) (deed K.three_bits a) i
 accesses i a = grind arith
 
-leads : (n : ℕ) (β : Bool) (arms : ℕ → Stance) (a : Stance) → T (may_step a) → next_of n (number_of a) (seen (holds K.three_bits) β arms (deed K.three_bits a)) (place a) ≡ place (step_arm K.three_bits n β arms a)
+leads : (n : ℕ) (β : Bool) (arms : ℕ → Stance) (a : Stance) → T (may_step a) → next_of n (side_number a) (read_by_deed (holds K.three_bits) β arms (deed K.three_bits a)) (place a) ≡ place (step_arm K.three_bits n β arms a)
 leads n β arms a k = grind arith
 
 pub plan : Plan three_bits

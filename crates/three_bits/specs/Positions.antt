@@ -1,11 +1,11 @@
 -- The table of positions of the three-bit door: the one access at each, and where the value just read leads.
 use Rattle.std.specs.Prelude.{ℕ, ◌+◌, ◌-◌, ◌*◌, Bool, true, false, if◌then◌else◌, ◌==◌, nat_lt}
-use Rattle.door.specs.Registers.{group}
-use Rattle.door.specs.Table.{Table}
-use Rattle.door.specs.declared.access.Access.{Access}
-use Rattle.door.specs.declared.access.Access.TheVariants.{Nothing, Read, Write}
-use Rattle.door.specs.declared.phase.Phase.{Phase}
-use Rattle.door.specs.declared.phase.Phase.TheVariants as P
+use Rattle.gate_model.specs.Registers.{group}
+use Rattle.gate_model.specs.Table.{Table}
+use Rattle.gate_model.specs.declared.access.Access.{Access}
+use Rattle.gate_model.specs.declared.access.Access.TheVariants.{Nothing, Read, Write}
+use Rattle.gate_model.specs.declared.phase.Phase.{Phase}
+use Rattle.gate_model.specs.declared.phase.Phase.TheVariants as P
 use Rattle.three_bits.specs.declared.position.Doorway.TheVariants.{D1, D2, D3, D4, D5}
 use Rattle.three_bits.specs.declared.position.Place.{Place}
 use Rattle.three_bits.specs.declared.position.Place.TheVariants.{W1, W2, W3, W4, W5, W6}

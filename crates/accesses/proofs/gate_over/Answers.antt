@@ -1,6 +1,6 @@
 use Rattle.std.proofs.Common.{ap, ◌∙◌, rules}
 use Rattle.bank.specs.Lent.{unlogged}
-use Rattle.door.specs.States.{made}
+use Rattle.gate_model.specs.States.{made}
 use Rattle.accesses.proofs.gate_over.Goals as goal
 
 pub returns : goal.returns

@@ -3,7 +3,7 @@ use Rattle.std.proofs.lemmas.Grind.{common_steps}
 use Rattle.std.proofs.lemmas.Bool.Decides.{nat_tests}
 use Rattle.bank.specs.Bits.{bit_registers, bits}
 use Rattle.bank.specs.Lent.{Lent, unlogged}
-use Rattle.door.specs.Table.{Table}
+use Rattle.gate_model.specs.Table.{Table}
 use Rattle.three_bits.specs.Positions.{three_bits}
 use Rattle.play.specs.Limits.{report_room}
 use Rattle.play.specs.Playing.{play_text, play_answer, play_memory}
@@ -11,7 +11,7 @@ use Rattle.play.specs.Text.{overwritten}
 use Rattle.play.specs.Reports.{text_answer, text_memory, fault_text}
 use Rattle.schedule.specs.Reading.{Contents}
 use Rattle.schedule.specs.declared.fault.PlayFault.{PlayFault}
-use Rattle.gateplay.specs.Shown.{shown, status_of}
+use Rattle.gateplay.specs.Printed.{shown, status_of}
 use Rattle.gateplay.proofs.make_outcome.Goals as goal
 
 -- a play answers with a fault only where the file cannot be played

@@ -1,6 +1,6 @@
 use Rattle.std.proofs.Common.{rules, subst}
 use Rattle.bank.specs.Lent.{unlogged}
-use Rattle.door.specs.States.{made}
+use Rattle.gate_model.specs.States.{made}
 use Rattle.plantday.specs.Day.{of_plant, FairDay}
 use Rattle.plantday.proofs.day_over.Goals as goal
 

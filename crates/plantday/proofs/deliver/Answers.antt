@@ -1,8 +1,8 @@
 use Rattle.std.proofs.Common.{◌+◌, ap, ◌∙◌}
-use Rattle.door.specs.declared.call.Call.TheVariants.{Admit, Leave}
-use Rattle.door.specs.Calls.{knows}
+use Rattle.gate_model.specs.declared.call.Call.TheVariants.{Admit, Leave}
+use Rattle.gate_model.specs.Calls.{knows}
 use Rattle.plantday.specs.Records.{with_move}
-use Rattle.plantday.proofs.Called.{once, joined}
+use Rattle.plantday.proofs.ListsOfCalls.{once, joined}
 use Rattle.plantday.proofs.Noted.{known_is}
 use Rattle.plantday.proofs.deliver.Goals as goal
 use Rattle.plantday.proofs.deliver.Goals.{then-known, else-known}

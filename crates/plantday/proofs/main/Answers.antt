@@ -1,5 +1,5 @@
 use Rattle.std.proofs.Common.{refl, arith}
-use Rattle.door.specs.Making.{largest}
+use Rattle.gate_model.specs.Making.{largest}
 use Rattle.plantday.proofs.main.Goals as goal
 
 -- each plant has the registers of six arms

@@ -1,12 +1,12 @@
 use Rattle.std.proofs.Common.{◌≡◌, rules, sym, subst, ap, ◌∙◌, arith}
 use Rattle.std.proofs.lemmas.Bool.Decides.{nat_tests}
-use Rattle.door.specs.States.{made}
+use Rattle.gate_model.specs.States.{made}
 use Rattle.plantday.specs.Day.{Called}
 use Rattle.plantday.specs.Records.{plant_arms}
 use Rattle.plantday.specs.Turns.{day_turns, plant, day_of}
-use Rattle.plantday.proofs.Called.{joined, fair_after, n_stays, name_stays}
-use Rattle.plantday.proofs.Noted.{looked}
-use Rattle.plantday.proofs.Turned.{turned_by_dice, turns_start, turns_on, day_over, noted_over}
+use Rattle.plantday.proofs.ListsOfCalls.{joined, fair_after, n_stays, name_stays}
+use Rattle.plantday.proofs.Noted.{look_turns}
+use Rattle.plantday.proofs.TurnByPhase.{turned_by_dice, turns_start, turns_on, day_over, noted_over}
 use Rattle.plantday.proofs.whole_day.Given.{Over}
 use Rattle.plantday.proofs.whole_day.Goals as goal
 
@@ -59,14 +59,14 @@ returns-clause-fair g c =
     fair_after door met.phased met.rules met.bits met.way met.reads (bank.memory c.args.bank) bank.HIGHEST 7 6 (bank.values c.args.bank) (from_making g c)
 
 pub returns-clause-turns : goal.returns-clause-turns
-returns-clause-turns g c = looked g.D.Door.table c.loop-t.gate 1 c.unwrap.result (sym c.look.ensures.answer ∙ c.unwrap.ensures)
+returns-clause-turns g c = look_turns g.D.Door.table c.loop-t.gate 1 c.unwrap.result (sym c.look.ensures.answer ∙ c.unwrap.ensures)
 
 pub returns-clause-day : goal.returns-clause-day
 returns-clause-day g c = ap (λ p. p.gate) (after_day g c)
 
 pub returns-clause-noted : goal.returns-clause-noted
 returns-clause-noted g c =
-    noted_over g.D.Door.table _ c.loop-t.gate c.loop-t.dice.state c.unwrap.result.turns c.loop-t.record (after_day g c) (looked g.D.Door.table c.loop-t.gate 1 c.unwrap.result (sym c.look.ensures.answer ∙ c.unwrap.ensures))
+    noted_over g.D.Door.table _ c.loop-t.gate c.loop-t.dice.state c.unwrap.result.turns c.loop-t.record (after_day g c) (look_turns g.D.Door.table c.loop-t.gate 1 c.unwrap.result (sym c.look.ensures.answer ∙ c.unwrap.ensures))
 
 pub returns-clause-lent : goal.returns-clause-lent
 returns-clause-lent g c =

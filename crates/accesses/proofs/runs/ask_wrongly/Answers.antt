@@ -1,7 +1,7 @@
 use Rattle.std.proofs.Common.{T, not, subst, sym, ◌∙◌, arith}
-use Rattle.door.specs.Phases.{same_phase}
-use Rattle.door.specs.declared.phase.Phase.TheVariants as P
-use Rattle.accesses.proofs.Visits.{again, not_begun, still_no_way}
+use Rattle.gate_model.specs.Phases.{same_phase}
+use Rattle.gate_model.specs.declared.phase.Phase.TheVariants as P
+use Rattle.accesses.proofs.Visits.{admit_refused, not_begun, still_no_way}
 use Rattle.accesses.proofs.runs.ask_wrongly.Goals as goal
 
 pub unwrap_err-requires-in-D-3 : goal.unwrap_err-requires-in-D-3
@@ -18,5 +18,5 @@ returns-in-D g c =
     let s = c.args.gate.now.gate in
     let i = c.args.arm in
     c.way-in-D.ensures.after
-    ∙ (again door c.begin.new.self.gate c.admit-in-D.new.self.gate i c.unwrap_err-in-D-2.result (sym c.admit-in-D.ensures.answer ∙ c.unwrap_err-in-D-2.ensures) c.admit-in-D.ensures.after
+    ∙ (admit_refused door c.begin.new.self.gate c.admit-in-D.new.self.gate i c.unwrap_err-in-D-2.result (sym c.admit-in-D.ensures.answer ∙ c.unwrap_err-in-D-2.ensures) c.admit-in-D.ensures.after
     ∙ not_begun door s c.begin.new.self.gate i P.D c.unwrap_err-in-D.result (sym c.begin.ensures.answer ∙ c.unwrap_err-in-D.ensures) c.begin.ensures.after)

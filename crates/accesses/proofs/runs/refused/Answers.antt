@@ -11,9 +11,9 @@ loop-t-preserved g c =
     let gate = c.loop-t.gate.gate in
     let other = c.loop-t.other in
     record {
-      ran = run_on door c.loop-t.t c.arm_count-n.result _ _ _ _ before.ran c.arm_count-n.ensures.arms c.arm_of-arm.ensures.arm turned.gate;
-      arms = ap (λ s. s.n) turned.gate ∙ turned_n door gate c.arm_of-arm.result ∙ before.arms;
-      number = ap (λ s. s.number) turned.gate ∙ turned_number door gate c.arm_of-arm.result ∙ before.number;
+      ran = run_on door c.loop-t.t c.arm_count-n.result _ _ _ _ before.ran c.arm_count-n.ensures.arms c.arm_of_turn-arm.ensures.arm turned.gate;
+      arms = ap (λ s. s.n) turned.gate ∙ turned_n door gate c.arm_of_turn-arm.result ∙ before.arms;
+      number = ap (λ s. s.number) turned.gate ∙ turned_number door gate c.arm_of_turn-arm.result ∙ before.number;
       others = ap (λ s. s.n) turned.other ∙ turned_n three_bits other 1 ∙ before.others;
       other_number = ap (λ s. s.number) turned.other ∙ turned_number three_bits other 1 ∙ before.other_number;
     }

@@ -1,12 +1,12 @@
 use Rattle.std.proofs.Common.{sym, refl, ap, ◌∙◌}
 use Rattle.three_bits.specs.Positions.{three_bits}
-use Rattle.accesses.proofs.Visits.{admitted, of_another, strange, taken, visit}
+use Rattle.accesses.proofs.Visits.{admitted, of_another, strange, taken_back, visit}
 use Rattle.accesses.proofs.runs.show_pass.Goals as goal
 
 pub unwrap-requires : goal.unwrap-requires
 unwrap-requires g c =
     let back = strange g.D.Door.table c.confirm.new.self.gate c.leave.new.self.gate c.confirm.result.0 c.unwrap_err.result (sym c.leave.ensures.answer ∙ c.unwrap_err.ensures) c.leave.ensures.after in
-    taken three_bits c.admit.new.self c.admit.new.self c.admit.result c.unwrap-pass.result c.unwrap_err.result.pass c.leave-2.result c.admit.ensures.known c.unwrap-pass.ensures refl
+    taken_back three_bits c.admit.new.self c.admit.new.self c.admit.result c.unwrap-pass.result c.unwrap_err.result.pass c.leave-2.result c.admit.ensures.known c.unwrap-pass.ensures refl
     (back.1 ∙ c.confirm.ensures.same) c.leave-2.ensures.answer
 
 pub returns-clause-gate : goal.returns-clause-gate

@@ -1,6 +1,6 @@
 use Rattle.std.proofs.Common.{◌≡◌}
-use Rattle.dispatchday.specs.Waits.{no_waits}
-use Rattle.dispatchday.specs.Day.{Moved, host, nothing_lost, day_of}
+use Rattle.dispatchday.specs.WaitTimes.{no_waits}
+use Rattle.dispatchday.specs.Day.{MovesMade, host, nothing_lost, day_of}
 use Rattle.dispatchday.proofs.host.day.Given as goal
 
 -- a move was made at each time so far, in a turn of the day
@@ -9,6 +9,6 @@ invariant-loop-time g l =
     let door = g.D.Door.table in
     let start = l.initial in
     record {
-      moves : Moved door l.time start.dispatcher l.dispatcher;
+      moves : MovesMade door l.time start.dispatcher l.dispatcher;
       day : host l.dispatcher l.asked l.readings l.lost l.waits ≡ day_of door l.time (host start.dispatcher start.asked start.readings nothing_lost no_waits);
     }

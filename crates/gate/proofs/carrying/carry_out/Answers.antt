@@ -1,13 +1,13 @@
 use Rattle.std.proofs.Common.{◌≡◌, get_or, sym, ap, ◌∙◌, subst}
 use Rattle.std.proofs.lemmas.List.{take_all}
-use Rattle.door.specs.Calls.{run, after}
-use Rattle.door.specs.Law.{Fair}
-use Rattle.door.specs.Making.{Making}
-use Rattle.door.specs.States.{made}
-use Rattle.door.specs.Turns.{TurnsTold}
-use Rattle.door.specs.declared.call.Call.TheVariants.{Begin}
-use Rattle.door.proofs.Origins.{run_more}
-use Rattle.door.proofs.Unaltered.{memory_name}
+use Rattle.gate_model.specs.Calls.{run, after}
+use Rattle.gate_model.specs.Law.{Fair}
+use Rattle.gate_model.specs.Making.{Making}
+use Rattle.gate_model.specs.States.{made}
+use Rattle.gate_model.specs.Turns.{TurnsTold}
+use Rattle.gate_model.specs.declared.call.Call.TheVariants.{Begin}
+use Rattle.gate_model.proofs.Origins.{run_more}
+use Rattle.gate_model.proofs.Unaltered.{memory_name}
 use Rattle.overtaking.proofs.Bound.{passing}
 use Rattle.overtaking.proofs.Fairness.{fair}
 use Rattle.overtaking.proofs.Turns.{turns_told}

@@ -1,5 +1,5 @@
 use Rattle.std.proofs.Common.{◌≡◌, take}
-use Rattle.door.specs.Calls.{run}
+use Rattle.gate_model.specs.Calls.{run}
 use Rattle.gate.proofs.carrying.carry_out.Given as goal
 
 -- the calls so far are carried out

@@ -1,5 +1,5 @@
 use Rattle.std.proofs.Common.{◌≡◌, ◌+◌, ◌-◌, ◌<◌, IsTrue, get_or, subst, sym, arith, rules}
-use Rattle.door.specs.Arms.{no_arm}
+use Rattle.gate_model.specs.Arms.{no_arm}
 use Rattle.gate.proofs.comparing.same.Goals as goal
 
 pub returns-then-same_registers : goal.returns-then-same_registers

@@ -1,5 +1,5 @@
 use Rattle.std.proofs.Common.{◌≡◌, ℕ, ◌<◌, get_or}
-use Rattle.door.specs.Arms.{no_arm}
+use Rattle.gate_model.specs.Arms.{no_arm}
 use Rattle.gate.proofs.comparing.same_phases.Given as goal
 
 abbrev pub invariant-loop-k : goal.invariant-loop-k

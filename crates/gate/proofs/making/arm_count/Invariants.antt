@@ -1,6 +1,6 @@
 use Rattle.std.proofs.Common.{◌≡◌, ◌≤◌, min, length}
-use Rattle.door.specs.Limits.{arm_limit}
-use Rattle.door.specs.Making.{largest}
+use Rattle.gate_model.specs.Limits.{arm_limit}
+use Rattle.gate_model.specs.Making.{largest}
 use Rattle.gate.proofs.making.arm_count.Given as goal
 
 -- no larger count has room

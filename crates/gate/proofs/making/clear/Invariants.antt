@@ -1,5 +1,5 @@
 use Rattle.std.proofs.Common.{◌≡◌}
-use Rattle.door.specs.Making.{cleared, cleared_memory}
+use Rattle.gate_model.specs.Making.{cleared, cleared_memory}
 use Rattle.gate.proofs.making.clear.Given as goal
 
 abbrev pub invariant-loop-i : goal.invariant-loop-i

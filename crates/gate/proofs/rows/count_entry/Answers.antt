@@ -1,7 +1,7 @@
 use Rattle.std.proofs.Common.{sym, ◌∙◌, arith}
-use Rattle.door.specs.Arms.{no_arm}
-use Rattle.door.specs.Tallies.{counted}
-use Rattle.door.proofs.Tables.{map_first, idle_uncounted}
+use Rattle.gate_model.specs.Arms.{no_arm}
+use Rattle.gate_model.specs.Tallies.{counted}
+use Rattle.gate_model.proofs.Tables.{map_first, idle_uncounted}
 use Rattle.gate.proofs.rows.count_entry.Goals as goal
 
 pub returns : goal.returns

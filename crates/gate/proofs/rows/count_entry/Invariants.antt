@@ -1,7 +1,7 @@
 use Rattle.std.proofs.Common.{◌≡◌, ℕ, ◌<◌, ◌≤◌, length, get_or}
-use Rattle.door.specs.Limits.{arm_limit}
-use Rattle.door.specs.Arms.{no_arm}
-use Rattle.door.specs.Tallies.{counted}
+use Rattle.gate_model.specs.Limits.{arm_limit}
+use Rattle.gate_model.specs.Arms.{no_arm}
+use Rattle.gate_model.specs.Tallies.{counted}
 use Rattle.gate.proofs.rows.count_entry.Given as goal
 
 -- the records below k are counted, the others as they were

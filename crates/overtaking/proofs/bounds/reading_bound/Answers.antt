@@ -1,4 +1,4 @@
-use Rattle.door.proofs.Doorways.{reading}
+use Rattle.gate_model.proofs.Doorways.{reading}
 use Rattle.overtaking.proofs.bounds.reading_bound.Goals as goal
 
 pub returns : goal.returns

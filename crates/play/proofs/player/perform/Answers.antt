@@ -1,10 +1,10 @@
 use Rattle.std.proofs.Common.{◌≡◌, ℕ, ◌≤◌, List, [], length, Ok, sym, ap, ◌∙◌, arith, rules}
 use Rattle.std.proofs.lemmas.Bool.Decides.{nat_tests}
-use Rattle.door.proofs.Unaltered.{memory_name}
-use Rattle.door.specs.States.{made}
+use Rattle.gate_model.proofs.Unaltered.{memory_name}
+use Rattle.gate_model.specs.States.{made}
 use Rattle.schedule.specs.Reading.{Contents}
 use Rattle.obeying.specs.Obeying.{obeyed_all, refusals}
-use Rattle.obeying.proofs.Lent.{obeyed_all_name}
+use Rattle.obeying.proofs.SameMemory.{obeyed_all_name}
 use Rattle.play.specs.Limits.{report_room}
 use Rattle.play.specs.Playing.{playable, start, end, play_text, play_answer, play_regs, play_lent, play_memory}
 use Rattle.play.specs.Reports.{report_text}

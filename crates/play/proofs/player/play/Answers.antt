@@ -1,4 +1,4 @@
-use Rattle.play.proofs.Elsewhere.{same_elsewhere}
+use Rattle.play.proofs.OtherBank.{same_elsewhere}
 use Rattle.play.proofs.player.play.Goals as goal
 
 pub returns-clause-elsewhere : goal.returns-clause-elsewhere

@@ -1,6 +1,6 @@
 use Rattle.std.proofs.Common.{arith}
 use Rattle.std.proofs.lemmas.Grind.{common_steps}
-use Rattle.schedule.proofs.Written.{next_within, one_more}
+use Rattle.schedule.proofs.OneMoreNumber.{next_within, one_more_number}
 use Rattle.schedule.proofs.writer.fill.Goals as goal
 
 pub put_order-at-requires-clause-room : goal.put_order-at-requires-clause-room
@@ -8,4 +8,4 @@ put_order-at-requires-clause-room c =
     omega (arith, next_within c.args.arms c.loop-i.i c.args.orders.now c.loop-i-test.true)
 
 pub loop-i-preserved : goal.loop-i-preserved
-loop-i-preserved c = grind (arith, common_steps, one_more)
+loop-i-preserved c = grind (arith, common_steps, one_more_number)

@@ -1,13 +1,13 @@
 use Rattle.std.proofs.Common.{◌≡◌, subst, sym, ap, ◌∙◌, rules, arith}
-use Rattle.door.proofs.Bools.{is_true}
-use Rattle.door.proofs.Unaltered.{run_n}
+use Rattle.gate_model.proofs.Bools.{is_true}
+use Rattle.gate_model.proofs.Unaltered.{run_n}
 use Rattle.ring.specs.Rings.{items}
 use Rattle.dispatcher.specs.Dispatchers.{Dispatch, NoPassOut}
 use Rattle.dispatcher.specs.Moves.{is_busy, in_turn, opening}
-use Rattle.dispatcher.proofs.Together.{idle_move, served_move}
-use Rattle.dispatcher.proofs.Order.{found_yes}
+use Rattle.dispatcher.proofs.MoveByCalls.{idle_move, served_move}
+use Rattle.dispatcher.proofs.CyclicOrder.{found_yes}
 use Rattle.dispatcher.proofs.Served.{led, law_of_moves}
-use Rattle.dispatcher.proofs.Spent.{opening_spent}
+use Rattle.dispatcher.proofs.NoPassOut.{opening_spent}
 use Rattle.dispatcher.proofs.dispatcher.Dispatcher.make_move.Goals as goal
 
 -- an arm is served: what the move comes to

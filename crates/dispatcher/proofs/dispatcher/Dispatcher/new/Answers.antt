@@ -1,7 +1,7 @@
 use Rattle.std.proofs.Common.{arith}
-use Rattle.door.specs.Making.{Making}
-use Rattle.door.proofs.Origins.{reached_made}
-use Rattle.dispatcher.proofs.Spent.{started_spent}
+use Rattle.gate_model.specs.Making.{Making}
+use Rattle.gate_model.proofs.Origins.{reached_made}
+use Rattle.dispatcher.proofs.NoPassOut.{started_spent}
 use Rattle.dispatcher.proofs.dispatcher.Dispatcher.new.Goals as goal
 
 pub invariant_of-result : goal.invariant_of-result

@@ -1,6 +1,6 @@
 use Rattle.std.proofs.Common.{rules}
 use Rattle.overtaking.proofs.Turns.{turns_law}
-use Rattle.gate.proofs.Told.{index_told}
+use Rattle.gate.proofs.RecordsRead.{index_told}
 use Rattle.gate.proofs.gate.Gate.look.Goals as goal
 
 pub returns-clause-turns : goal.returns-clause-turns

@@ -1,14 +1,14 @@
 use Rattle.std.proofs.Common.{◌≡◌, ℕ, ◌<◌, ◌≤◌, List, length, replicate, sym, ap, ◌∙◌, subst, arith, rules}
 use Rattle.std.proofs.lemmas.Bool.Decides.{nat_tests}
-use Rattle.door.proofs.Origins.{reached_made}
+use Rattle.gate_model.proofs.Origins.{reached_made}
 use Rattle.bank.specs.Lent.{Lent}
-use Rattle.door.specs.Arms.{fresh}
-use Rattle.door.specs.Limits.{arm_limit}
-use Rattle.door.specs.Making.{Making, arms_of, cleared, made_regs, cleared_memory, made_memory}
-use Rattle.door.specs.States.{made}
-use Rattle.door.specs.Table.{Table}
-use Rattle.door.specs.declared.arm.Arm.{Arm}
-use Rattle.door.proofs.Rooms.{arms_few, arms_fit}
+use Rattle.gate_model.specs.Arms.{fresh}
+use Rattle.gate_model.specs.Limits.{arm_limit}
+use Rattle.gate_model.specs.Making.{Making, arms_of, cleared, made_regs, cleared_memory, made_memory}
+use Rattle.gate_model.specs.States.{made}
+use Rattle.gate_model.specs.Table.{Table}
+use Rattle.gate_model.specs.declared.arm.Arm.{Arm}
+use Rattle.gate_model.proofs.Rooms.{arms_few, arms_fit}
 use Rattle.gate.proofs.InHand.{in_hand}
 use Rattle.gate.proofs.gate.Gate.make.Goals as goal
 use Rattle.gate.proofs.gate.Gate.make.Goals.{then-n-gt0, else-n-gt0}

@@ -1,16 +1,16 @@
 use Rattle.std.proofs.Common.{◌≡◌, ℕ, ◌-◌, ◌<◌, ◌≤◌, cond, ◌&&◌, None, length, get_or, sym, ap, ◌∙◌, subst, arith, rules}
 use Rattle.std.proofs.lemmas.List.{get_or_read}
-use Rattle.door.specs.Arms.{no_arm, side_of}
-use Rattle.door.specs.Calls.{refusal_of, stepped}
-use Rattle.door.specs.Law.{IsReached}
-use Rattle.door.specs.Phases.{same_phase}
-use Rattle.door.specs.Registers.{turns_bit}
-use Rattle.door.specs.States.{State, arm_at}
-use Rattle.door.proofs.Rests.{rest_set}
-use Rattle.door.proofs.Steps.{put_together, step_after}
+use Rattle.gate_model.specs.Arms.{no_arm, side_of}
+use Rattle.gate_model.specs.Calls.{refusal_of, stepped}
+use Rattle.gate_model.specs.Law.{IsReached}
+use Rattle.gate_model.specs.Phases.{same_phase}
+use Rattle.gate_model.specs.Registers.{turns_bit}
+use Rattle.gate_model.specs.States.{State, arm_at}
+use Rattle.gate_model.proofs.Rests.{rest_set}
+use Rattle.gate_model.proofs.Steps.{put_together, step_after}
 use Rattle.overtaking.proofs.Turns.{turns_few, exit_turns}
-use Rattle.door.specs.declared.call.Call.TheVariants.{Step}
-use Rattle.door.specs.declared.phase.Phase.TheVariants as P
+use Rattle.gate_model.specs.declared.call.Call.TheVariants.{Step}
+use Rattle.gate_model.specs.declared.phase.Phase.TheVariants as P
 use Rattle.gate.proofs.InHand.{after_call}
 use Rattle.gate.proofs.gate.Gate.move_on.Goals as goal
 

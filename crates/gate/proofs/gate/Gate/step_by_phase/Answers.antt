@@ -1,6 +1,6 @@
 use Rattle.std.proofs.Common.{sym, ◌∙◌, rules}
-use Rattle.door.specs.declared.phase.Phase.TheVariants as P
-use Rattle.gate.proofs.Told.{may_move}
+use Rattle.gate_model.specs.declared.phase.Phase.TheVariants as P
+use Rattle.gate.proofs.RecordsRead.{may_move}
 use Rattle.gate.proofs.gate.Gate.step_by_phase.Goals as goal
 
 pub move_on-requires : goal.move_on-requires

@@ -1,0 +1,13 @@
+pub mod Plans
+pub mod Layouts
+pub mod Deeds
+pub mod Simulates
+pub mod EveryCall
+pub mod RulesShown
+pub mod Accesses
+pub mod Doorways
+pub mod Rounds
+pub mod Blocked
+pub mod HasWay
+pub mod WayTold
+pub mod Shown
