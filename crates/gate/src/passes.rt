@@ -64,7 +64,7 @@ impl<B: Bank, D: Door> Gate<B, D> {
         Ok(Phase::X)
     }
 
-    /// Admits an arm and lets it leave at once. Refuses as `admit` does, with 1, 6 or 7: an arm whose pass is out leaves with that alone.
+    /// Admits an arm and lets it leave at once. Refuses as `admit` does, with 1, 6 or 7: an arm whose pass is out leaves only by that pass.
     pub fn let_go(&mut self, arm: usize) -> Result<Phase, Refusal>
         ensures answer { result ≡ let_go_answer D.table self.old arm }
         ensures after { self.new ≡ left_at_once D.table self.old arm }
