@@ -21,6 +21,9 @@ pub by_answer : {X : Type 0} (r : Option Refusal) (new old : X) (P : X → Bool 
 by_answer None new old P h g = h refl
 by_answer (Some r) new old P h g = g
 
+pub none_refused : (r : Option Refusal) → T (no_refusal r) → r ≡ None
+none_refused r h = grind arith
+
 -- it is an arm of the gate
 pub for_arm_none : (b : Bool) (r : Option Refusal) → cond b r (Some R.NoArm) ≡ None → r ≡ None
 for_arm_none b r e = grind arith

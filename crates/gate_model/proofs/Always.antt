@@ -1,5 +1,5 @@
 -- One induction over calls: what holds of every run, at every origin, and of every gate in hand.
-use Rattle.std.proofs.Common.{◌≡◌, ℕ, Bool, T, ◌⊎◌, inl, inr, List, [], ◌∷◌, refl, ◌∙◌, subst, ⊎_elim, ◌<◌, ◌≤◌, arith}
+use Rattle.std.proofs.Common.{◌≡◌, ℕ, Bool, T, ◌⊎◌, inl, inr, List, [], ◌∷◌, refl, ◌∙◌, subst, ⊎_elim, ◌≤◌, arith}
 use Rattle.std.proofs.lemmas.Bool.{cases_eq, cases_lt}
 use Rattle.std.proofs.lemmas.Grind.{not_there}
 use Rattle.gate_model.specs.Calls.{after, run, stepped}

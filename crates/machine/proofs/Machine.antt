@@ -1,5 +1,5 @@
 -- The machine that a gate simulates: what the registers say of an arm is part of the arm's own state.
-use Rattle.std.proofs.Common.{◌≡◌, ℕ, ◌+◌, ◌≤◌, Bool, true, false, cond, not, ◌&&◌, eqb, ltb, ◌≢◌, Some, None, Option, sym, subst, arith, eqb→eq}
+use Rattle.std.proofs.Common.{◌≡◌, ℕ, ◌+◌, Bool, true, false, cond, not, ◌&&◌, eqb, ltb, ◌≢◌, Some, None, Option, sym, subst, arith, eqb→eq}
 use Rattle.std.proofs.lemmas.Bool.Decides.{nat_tests}
 use Rattle.gate_model.specs.Phases.{same_phase}
 use Rattle.gate_model.specs.declared.phase.Phase.{Phase}
@@ -18,15 +18,11 @@ pub data Stance : Type 0 where
 
 abbrev pub phase : Stance → Phase
 phase (idle g) = P.I
-phase (d1 g) = P.D
-phase (d2 g) = P.D
-phase (d3 s g) = P.D
-phase (d4 s) = P.D
-phase (d5 s) = P.D
 phase (waits s j p) = P.W
 phase (inside s o) = P.F
 phase (x1 s) = P.X
 phase (x2 s) = P.X
+phase d = P.D
 
 -- by phase
 abbrev pub at : Phase → Stance → Bool
@@ -109,25 +105,12 @@ step_waiting four_valued n β b s j W5 = cond (same_bit β s) (waits s j W4) (ne
 step_waiting four_valued n β b s j W6 = cond (faces s b) (waits s j W5) (next n s j)
 
 -- it waits on, or goes inside
-next_outcome : (P : Stance → Type 0) (n : ℕ) (s : Bool) → ((j : ℕ) (p : WaitingPlace) → P (waits s j p)) → P (inside s false) → (j : ℕ) → P (next n s j)
-next_outcome P n s on in' j = by P (ltb j n) (waits s (j + 1) W1) (inside s false) (λ _. on (j + 1) W1) (λ _. in')
-
 pub outcome : (P : Stance → Type 0) (δ : Kind) (n : ℕ) (β : Bool) (b : Stance) (s : Bool) → ((j : ℕ) (p : WaitingPlace) → P (waits s j p)) → P (inside s false)
     → (j : ℕ) (p : WaitingPlace) → P (step_waiting δ n β b s j p)
-outcome P δ n β b s on in' j W1 = by P (same_bit β s) (waits s j W2) (inside s false) (λ _. on j W2) (λ _. in')
-outcome P δ n β b s on in' j W2 = by P (choosing b) (waits s j W2) (waits s j W3) (λ _. on j W2) (λ _. on j W3)
-outcome P three_bits n β b s on in' j W3 = by P (same_bit (mygroup b) s) (next n s j) (waits s j W4) (λ _. next_outcome P n s on in' j) (λ _. on j W4)
-outcome P three_bits n β b s on in' j W4 = by P (flag b) (waits s j W5) (next n s j) (λ _. on j W5) (λ _. next_outcome P n s on in' j)
-outcome P three_bits n β b s on in' j W5 = by P (same_bit β s) (waits s j W6) (next n s j) (λ _. on j W6) (λ _. next_outcome P n s on in' j)
-outcome P three_bits n β b s on in' j W6 = by P (same_bit (mygroup b) s) (next n s j) (waits s j W4) (λ _. next_outcome P n s on in' j) (λ _. on j W4)
-outcome P four_valued n β b s on in' j W3 = by P (faces s b) (waits s j W4) (next n s j) (λ _. on j W4) (λ _. next_outcome P n s on in' j)
-outcome P four_valued n β b s on in' j W4 = by P (faces s b) (waits s j W5) (next n s j) (λ _. on j W5) (λ _. next_outcome P n s on in' j)
-outcome P four_valued n β b s on in' j W5 = by P (same_bit β s) (waits s j W4) (next n s j) (λ _. on j W4) (λ _. next_outcome P n s on in' j)
-outcome P four_valued n β b s on in' j W6 = by P (faces s b) (waits s j W5) (next n s j) (λ _. on j W5) (λ _. next_outcome P n s on in' j)
+outcome P δ n β b s on in' j p = grind (arith, on)
 
 -- the second kind comes to d5 from d2; at d3 and d4, where it never is, it would go on as at d5
 abbrev pub step_arm : Kind → ℕ → Bool → (ℕ → Stance) → Stance → Stance
-step_arm δ n β arms (idle g) = idle g
 step_arm δ n β arms (d1 g) = d2 g
 step_arm three_bits n β arms (d2 g) = d3 β g
 step_arm four_valued n β arms (d2 g) = d5 β
@@ -137,27 +120,14 @@ step_arm three_bits n β arms (d4 s) = d5 s
 step_arm four_valued n β arms (d4 s) = waits s 1 W1
 step_arm δ n β arms (d5 s) = waits s 1 W1
 step_arm δ n β arms (waits s j p) = step_waiting δ n β (arms j) s j p
-step_arm δ n β arms (inside s o) = inside s o
 step_arm δ n β arms (x1 s) = x2 s
 step_arm δ n β arms (x2 s) = idle s
+step_arm δ n β arms a = a
 
 -- the group after it
 abbrev pub turn_step : Bool → Stance → Bool
 turn_step β (x1 s) = not s
 turn_step β a = β
-
--- the other moves, of an arm that may make them
-abbrev pub begin_arm : Stance → Stance
-begin_arm (idle g) = d1 g
-begin_arm a = a
-
-abbrev pub admit_arm : Stance → Stance
-admit_arm (inside s o) = inside s true
-admit_arm a = a
-
-abbrev pub leave_arm : Stance → Stance
-leave_arm (inside s true) = x1 s
-leave_arm a = a
 
 pub data Move : Type 0 where
   begin step admit leave : Move
@@ -170,11 +140,16 @@ abbrev pub is_begin : Move → Bool
 is_begin begin = true
 is_begin m = false
 
+-- the other moves, of an arm that may make them
+abbrev pub visit : Move → Stance → Stance
+visit begin (idle g) = d1 g
+visit admit (inside s o) = inside s true
+visit leave (inside s true) = x1 s
+visit m a = a
+
 abbrev pub act : Move → Kind → ℕ → Bool → (ℕ → Stance) → Stance → Stance
-act begin δ n β arms a = begin_arm a
 act step δ n β arms a = step_arm δ n β arms a
-act admit δ n β arms a = admit_arm a
-act leave δ n β arms a = leave_arm a
+act m δ n β arms a = visit m a
 
 abbrev pub turn : Move → Bool → Stance → Bool
 turn step β a = turn_step β a
@@ -200,9 +175,9 @@ with_stance_same f i a = grind (arith, nat_tests)
 pub with_stance_other : (f : ℕ → Stance) (i : ℕ) (a : Stance) (k : ℕ) → k ≢ i → with_stance f i a k ≡ f k
 with_stance_other f i a k ne = grind (arith, nat_tests)
 
--- a number told of each arm is no more than another one was, if it is so at that place and elsewhere
-pub with_stance_le : (t u : Stance → ℕ) (f : ℕ → Stance) (i : ℕ) (a : Stance) → t a ≤ u (f i) → ((k : ℕ) → t (f k) ≤ u (f k)) → (k : ℕ) → t (with_stance f i a k) ≤ u (f k)
-with_stance_le t u f i a here there k = by (λ x. t x ≤ u (f k)) (eqb k i) a (f k) (λ q. subst (λ y. t a ≤ u (f y)) (sym (eqb→eq k i q)) here) (λ q. there k)
+-- what holds of the new stance at its place, and of the old one at every place, holds of what is at each place now
+pub with_stance_each : (P : ℕ → Stance → Type 0) (f : ℕ → Stance) (i : ℕ) (a : Stance) → P i a → ((k : ℕ) → P k (f k)) → (k : ℕ) → P k (with_stance f i a k)
+with_stance_each P f i a one all k = by (P k) (eqb k i) a (f k) (λ q. subst (λ j. P j a) (sym (eqb→eq k i q)) one) (λ q. all k)
 
 -- the kind of door, how many arms, the group, the arms (from 1)
 pub record Machine : Type 0 where

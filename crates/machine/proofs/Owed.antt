@@ -2,11 +2,11 @@
 use Rattle.std.proofs.Common.{◌≡◌, ℕ, ◌+◌, ◌-◌, ◌≤◌, Bool, true, false, cond, not, ◌||◌, T, eqb, ◌≢◌, ◌⊎◌, sym, refl, ap, ◌∙◌, subst, inl, inr, ⊎_elim, arith, eqb→eq}
 use Rattle.std.proofs.lemmas.Bool.{cases_eq}
 use Rattle.gate_model.specs.declared.phase.Phase.TheVariants as P
-use Rattle.gate_model.proofs.Bools.{same_bit, test, clash, differ, T_or_left, T_or_right, by}
+use Rattle.gate_model.proofs.Bools.{same_bit, test, clash, T_or_left, T_or_right, by}
 use Rattle.machine.specs.Kinds.{Kind, WaitingPlace, W2}
-use Rattle.machine.proofs.Machine.{Stance, waits, at, has, choosing, Move, step, act, allowed, with_stance_same, with_stance_other, with_stance_le, Machine, moved}
+use Rattle.machine.proofs.Machine.{Stance, waits, at, has, choosing, Move, act, may_step, allowed, with_stance_same, with_stance_other, with_stance_each, Machine, moved}
 use Rattle.machine.proofs.Invariant.{Free, Inv}
-use Rattle.machine.proofs.Waiting.{Waiting, Entry, only_steps, has_awake, find, move_out}
+use Rattle.machine.proofs.Waiting.{Waiting, Entry, only_steps, has_awake, free_or_barred, move_out}
 use Rattle.machine.proofs.Potential.{queue, held, queue_act, queue_chooses, potential, foe, foe_act, foe_look, foe_bound, foe_some, foe_none, foe_held, most}
 use Rattle.machine.proofs.Falls.{fit, away, other_le, held_falls, potential_own}
 use Rattle.machine.proofs.Rank.{free_none, free_after}
@@ -65,9 +65,6 @@ pub data Due (g : Machine) (w : ℕ) (s : Bool) (M : ℕ) (due : ℕ → Type 0)
   foes : 1 ≤ M → (T (same_bit g.group s) → (k : ℕ) → (foe g.kind s g.arms (g.arms k) + 1 ≤ M) ⊎ Owed g.arms due k) → Due g w s M due
   self : Free g.group g.arms s → Owed g.arms due w → Due g w s M due
 
-same_index : (s u : Bool) (j i : ℕ) (p q : WaitingPlace) → waits s j p ≡ waits u i q → (j ≡ i) × (p ≡ q)
-same_index s u j i p q e = grind arith
-
 module _ (g : Machine) (inv : Inv g) (w : ℕ) (s : Bool) (j : ℕ) (p : WaitingPlace) (e : g.arms w ≡ waits s j p) where
   module _ (m : Move) (i : ℕ) (q : T (same_bit (moved g m i).group s)) where
     abbrev new : ℕ → Stance
@@ -78,7 +75,7 @@ module _ (g : Machine) (inv : Inv g) (w : ℕ) (s : Bool) (j : ℕ) (p : Waiting
     was = away g inv w s j p e m i q
 
     queues : (k : ℕ) → queue g.kind s (new k) ≤ queue g.kind s (g.arms k)
-    queues = with_stance_le (queue g.kind s) (queue g.kind s) g.arms i _ (queue_act g.kind g.n g.group g.arms s m (g.arms i) (fit g inv w s j p e i) q) (λ k. omega arith)
+    queues = with_stance_each (λ k a. queue g.kind s a ≤ queue g.kind s (g.arms k)) g.arms i _ (queue_act g.kind g.n g.group g.arms s m (g.arms i) (fit g inv w s j p e i) q) (λ k. omega arith)
 
     -- the mover's own, and no arm's rises
     foe_mover : (c : Bool) → (T c → T (allowed m (g.arms i)) × T (not (held g.arms (g.arms i)))) → foe g.kind s new (new i) ≤ foe g.kind s g.arms (g.arms i) - cond c 1 0
@@ -89,10 +86,8 @@ module _ (g : Machine) (inv : Inv g) (w : ℕ) (s : Bool) (j : ℕ) (p : Waiting
         omega arith
 
     foe_after : (k : ℕ) → foe g.kind s new (new k) ≤ foe g.kind s g.arms (g.arms k)
-    foe_after k = ⊎_elim
-        (λ t. subst (λ y. foe g.kind s new (new y) ≤ foe g.kind s g.arms (g.arms y)) (sym t) (let x = foe_mover false (λ x. absurd x) in omega arith))
-        (λ ne. subst (λ a. foe g.kind s new a ≤ foe g.kind s g.arms (g.arms k)) (sym (with_stance_other g.arms i _ k ne)) (foe_look g.kind s g.arms new queues (g.arms k)))
-        (cases_eq k i)
+    foe_after = with_stance_each (λ k a. foe g.kind s new a ≤ foe g.kind s g.arms (g.arms k)) g.arms i _
+        (let x = foe_mover false (λ x. absurd x) in let y = ap (foe g.kind s new) (with_stance_same g.arms i (act m g.kind g.n g.group g.arms (g.arms i))) in omega arith) (λ k. foe_look g.kind s g.arms new queues (g.arms k))
 
   -- the bound holds on
   pub below_moved : (m : Move) (i M : ℕ) → Below g s M → Below (moved g m i) s M
@@ -101,8 +96,7 @@ module _ (g : Machine) (inv : Inv g) (w : ℕ) (s : Bool) (j : ℕ) (p : Waiting
   own_move : (m : Move) (i : ℕ) → i ≡ w → T (allowed m (g.arms i)) → (k : Bool) → (T k → T (not (held g.arms (g.arms i)))) → (T k → T (same_bit g.group s) → T (not (has (not s) (g.arms j)))) → potential s (moved g m i) w + cond k 1 0 ≤ potential s g w
   own_move m i z l k c free =
       let is : g.arms i ≡ waits s j p = ap g.arms z ∙ e in
-      subst (λ m'. potential s (moved g m' i) w + cond k 1 0 ≤ potential s g w) (sym (only_steps m s j p (subst (λ y. T (allowed m y)) is l)))
-      (subst (λ i'. potential s (moved g step i') w + cond k 1 0 ≤ potential s g w) (sym z) (potential_own g inv w s j p e k (λ t. subst (λ y. T (not (held g.arms y))) is (c t)) free))
+      rw (only_steps m (g.arms i) (subst (λ y. T (may_step y)) (sym is) tt) l, z) (potential_own g inv w s j p e k (λ t. subst (λ y. T (not (held g.arms y))) is (c t)) free)
 
   -- any allowed move: w goes inside, or waits on and its potential does not rise
   pub move_waits : (m : Move) (i : ℕ) → T (allowed m (g.arms i)) → Entry m i w (moved g m i) ⊎ (Waiting s ((moved g m i).arms w) × (potential s (moved g m i) w ≤ potential s g w))
@@ -126,21 +120,18 @@ module _ (g : Machine) (inv : Inv g) (w : ℕ) (s : Bool) (j : ℕ) (p : Waiting
   due_moves m i k M below due due' on (self free x) = go (went g m i due due' on w x)
     where
       go : Went g m i due' w → (potential s (moved g m i) w + 1 ≤ potential s g w) ⊎ Due (moved g m i) w s M due'
-      go (mine z d) = inl (own_move m i (sym z) k true (λ t. d) (λ t q. free_none g.group g.arms s free q j))
+      go (mine z d) = inl (own_move m i (sym z) k true (λ t. d) (λ t. free_none g.group g.arms s free j))
       go (frees ne u h c) =
-          let is = same_index s u j i p W2 (sym e ∙ h) in
-          let here : j ≡ i = is.0 in
+          let here : j ≡ i = cc (e, h) in
+          let at_w2 : p ≡ W2 = cc (e, h) in
           inl (subst (λ y. potential s (moved g m y) w + 1 ≤ potential s g w) here
-          (held_falls g inv w s j p e m (λ z. ne (sym z ∙ here)) is.1 (λ q. free_none g.group g.arms s free q j) (subst (λ y. T (allowed m (g.arms y))) (sym here) k)
+          (held_falls g inv w s j p e m (λ z. ne (sym z ∙ here)) at_w2 (free_none g.group g.arms s free j) (subst (λ y. T (allowed m (g.arms y))) (sym here) k)
           (subst (λ y. T (choosing (g.arms y) || choosing (act m g.kind g.n g.group g.arms (g.arms y)))) (sym here) c)))
       go (still o) = inr (self (free_after g inv w s j p e free m i) o)
 
   -- at its start a round owes something
   pub due_exists : (M : ℕ) → Below g s M → (due : ℕ → Type 0) → ((b : ℕ) → 1 ≤ b → b ≤ g.n → T (not (at P.I (g.arms b))) → due b) → Due g w s M due
-  due_exists M below due moves = ⊎_elim
-      (λ q. ⊎_elim (λ x. some x.0 x.3 (below q x.0)) (λ none. alone (λ k h. let r = inv.range k (not s) h in absurd (clash (has (not s) (g.arms k)) h (none k r.0 r.1)))) (find (λ k. has (not s) (g.arms k)) g.n))
-      (λ d. alone (λ k h. differ g.group s d))
-      (test (same_bit g.group s))
+  due_exists M below due moves = ⊎_elim alone (λ x. some x.1.0 x.1.1 (below x.0 x.1.0)) (free_or_barred g inv s)
     where
       awake : (b : ℕ) → T (not (at P.I (g.arms b))) → due b
       awake b a = let r = inv.awake b a in moves b r.0 r.1 a

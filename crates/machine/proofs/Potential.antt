@@ -1,7 +1,7 @@
 -- For how many rounds a waiting arm waits at most: its potential, while no arm with the other side holds it up; and what such an arm still has to do.
 use Rattle.std.proofs.Common.{◌≡◌, ℕ, ◌+◌, ◌-◌, ◌*◌, ◌≤◌, Bool, true, false, cond, not, ◌||◌, T, eqb, ltb, sym, subst, arith}
 use Rattle.std.proofs.lemmas.Bool.Decides.{nat_tests}
-use Rattle.gate_model.proofs.Bools.{same_bit, by}
+use Rattle.gate_model.proofs.Bools.{same_bit}
 use Rattle.machine.specs.Kinds.{Kind, three_bits, four_valued, WaitingPlace, W1, W2, W3, W4, W5, W6}
 use Rattle.machine.proofs.Machine.{Stance, d2, d3, d4, d5, waits, inside, x1, x2, has, choosing, flag, next, step_waiting, outcome, Move, step, act, turn, allowed, Machine}
 
@@ -67,9 +67,11 @@ rank δ true n w s a j p = indices_ahead δ n w j + slow δ s (eqb j w) a p
 rank δ false n w s a j p = quick (queue δ (not s) a) p
 
 abbrev pub rank_of : Kind → Bool → ℕ → ℕ → Bool → (ℕ → Stance) → Stance → ℕ
-rank_of δ true n w s arms (waits u j p) = rank δ true n w s (arms j) j p
-rank_of δ true n w s arms a = 0
-rank_of δ false n w s arms a = quick_of δ (not s) arms a
+rank_of δ e n w s arms (waits u j p) = rank δ e n w s (arms j) j p
+rank_of δ e n w s arms a = 0
+
+quick_is : (δ : Kind) (n w : ℕ) (s : Bool) (arms : ℕ → Stance) (a : Stance) → rank_of δ false n w s arms a ≡ quick_of δ (not s) arms a
+quick_is δ n w s arms a = grind arith
 
 abbrev pub potential : Bool → Machine → ℕ → ℕ
 potential s g w = rank_of g.kind (same_bit g.group s) g.n w s g.arms (g.arms w)
@@ -105,14 +107,11 @@ turn_away m β s a f h = grind arith
 
 -- of an arm that moves: it holds the others up no longer than before, and less long if it chooses before or after
 module _ (δ : Kind) (n : ℕ) (β : Bool) (arms : ℕ → Stance) (s : Bool) where
-  queue_waits : (b : Stance) (γ u : Bool) (j : ℕ) (p : WaitingPlace) → queue δ γ (step_waiting δ n β b u j p) ≤ queue δ γ (waits u j p)
-  queue_waits b γ u j p = outcome (λ r. queue δ γ r ≤ queue δ γ (waits u j p)) δ n β b u (λ j p. grind arith) (grind arith) j p
-
   never_chooses : (b : Stance) (u : Bool) (j : ℕ) (p : WaitingPlace) → T (choosing (step_waiting δ n β b u j p)) → ⊥
   never_chooses b u = outcome (λ r. T (choosing r) → ⊥) δ n β b u (λ j p x. x) (λ x. x)
 
   pub queue_act : (m : Move) (a : Stance) → Fit β s a → T (same_bit (turn m β a) s) → queue δ s (act m δ n β arms a) ≤ queue δ s a
-  queue_act step (waits u j p) f q = queue_waits (arms j) s u j p
+  queue_act step (waits u j p) f q = outcome (λ r. queue δ s r ≤ queue δ s (waits u j p)) δ n β (arms j) u (λ j p. grind arith) (grind arith) j p
   queue_act m a f q = grind arith
 
   pub queue_chooses : (m : Move) (a : Stance) → T (same_bit β s) → T (allowed m a) → T (choosing a || choosing (act m δ n β arms a)) → queue δ s (act m δ n β arms a) + 1 ≤ queue δ s a
@@ -146,15 +145,10 @@ module _ (δ : Kind) (n : ℕ) (β : Bool) (arms : ℕ → Stance) (u : Bool) (j
 
   -- the group is not its side: its number falls
   pub quick_step : (γ k : Bool) (p : WaitingPlace) → T (not (same_bit β u)) → (T k → T (not (held arms (waits u j p)))) → quick_of δ γ arms (after p) + cond k 1 0 ≤ quick (queue δ γ (arms j)) p
-  quick_step γ k W1 d c = grind arith
-  quick_step γ k W2 d c = grind arith
   quick_step γ k p d c = let x = quick_next γ in grind arith
 
-  ahead_next : (w : ℕ) → w ≤ n → T (ltb j n) → indices_ahead δ n w (j + 1) + slow δ u (eqb (j + 1) w) (arms (j + 1)) W1 ≤ indices_ahead δ n w j
-  ahead_next w hi l = grind (arith, nat_tests)
-
   slow_next : (w : ℕ) → w ≤ n → rank_of δ true n w u arms (next n u j) ≤ indices_ahead δ n w j
-  slow_next w hi = by (λ r. rank_of δ true n w u arms r ≤ indices_ahead δ n w j) (ltb j n) (waits u (j + 1) W1) (inside u false) (ahead_next w hi) (λ x. omega arith)
+  slow_next w hi = grind (arith, nat_tests)
 
   -- the group is its side: its rank does not rise, and falls if k, where the arm at its index does not have the other side
   pub slow_step : (w : ℕ) (k : Bool) (p : WaitingPlace) → w ≤ n → T (same_bit β u) → (T (eqb j w) → T (has u (arms j)) × T (not (choosing (arms j)))) → (T k → T (not (held arms (waits u j p)))) → (T k → T (not (has (not u) (arms j)))) →
@@ -167,15 +161,15 @@ module _ (δ : Kind) (n : ℕ) (β : Bool) (arms : ℕ → Stance) (u : Bool) (j
   pub own_step : (w : ℕ) (k : Bool) (p : WaitingPlace) → w ≤ n → (T (eqb j w) → T (has u (arms j)) × T (not (choosing (arms j)))) → (T k → T (not (held arms (waits u j p)))) → (T k → T (same_bit β u) → T (not (has (not u) (arms j)))) →
       (e : Bool) → same_bit β u ≡ e → rank_of δ e n w u arms (after p) + cond k 1 0 ≤ rank δ e n w u (arms j) j p
   own_step w k p hi own c free true q = let t : T (same_bit β u) = subst T (sym q) tt in slow_step w k p hi t own c (λ x. free x t)
-  own_step w k p hi own c free false q = quick_step (not u) k p (subst (λ b. T (not b)) (sym q) tt) c
+  own_step w k p hi own c free false q = let x = quick_is δ n w u arms (after p) in let y = quick_step (not u) k p (subst (λ b. T (not b)) (sym q) tt) c in omega arith
 
 -- what an arm with the other side still has to do: no more than before, and less after its move if it was not held up
 module _ (δ : Kind) (n : ℕ) (β : Bool) (arms : ℕ → Stance) (s : Bool) (q : T (same_bit β s)) where
-  foe_waits : (u : Bool) (j : ℕ) (p : WaitingPlace) → foe δ s arms (step_waiting δ n β (arms j) u j p) ≤ cond (same_bit (not s) u) (4 + quick_of δ s arms (step_waiting δ n β (arms j) u j p)) 0
-  foe_waits u j p = outcome (λ r. foe δ s arms r ≤ cond (same_bit (not s) u) (4 + quick_of δ s arms r) 0) δ n β (arms j) u (λ j p. omega arith) (omega arith) j p
-
   pub foe_act : (k : Bool) (m : Move) (a : Stance) → (T k → T (allowed m a) × T (not (held arms a))) → foe δ s arms (act m δ n β arms a) ≤ foe δ s arms a - cond k 1 0
-  foe_act k step (waits u j p) c = let x = foe_waits u j p in let y = quick_step δ n β arms u j s k p in grind arith
+  foe_act k step (waits u j p) c =
+      let x = outcome (λ r. foe δ s arms r ≤ cond (same_bit (not s) u) (4 + quick_of δ s arms r) 0) δ n β (arms j) u (λ j p. omega arith) (omega arith) j p in
+      let y = quick_step δ n β arms u j s k p in
+      grind arith
   foe_act k m a c = grind arith
 
 -- as the others move

@@ -2,13 +2,12 @@
 use Rattle.std.proofs.Common.{◌≡◌, ℕ, ◌+◌, ◌-◌, ◌*◌, ◌≤◌, Bool, true, false, cond, not, T, eqb, ◌≢◌, sym, ap, ◌∙◌, subst, ⊎_elim, arith, eqb→eq}
 use Rattle.std.proofs.lemmas.Bool.Decides.{nat_tests}
 use Rattle.gate_model.specs.declared.phase.Phase.TheVariants as P
-use Rattle.gate_model.proofs.Bools.{same_bit, same_refl, same_sym, opposite, differ, test, none_of, by}
+use Rattle.gate_model.proofs.Bools.{same_bit, same_refl, same_sym, opposite, differ, test, none_of}
 use Rattle.machine.specs.Kinds.{Kind, three_bits, four_valued, WaitingPlace, W1, W2, W3, W4, W5, W6}
-use Rattle.machine.proofs.Machine.{Stance, waits, at, has, mygroup, step_waiting, step_arm, turn_step, Move, step, act, with_stance, with_stance_same, with_stance_other, Machine, moved}
-use Rattle.machine.proofs.Invariant.{Free, Inv, Home, act_nothing_new, with_stance_nothing_new}
-use Rattle.machine.proofs.Waiting.{has_own}
-use Rattle.machine.proofs.Potential.{Fit, turn_away, quick}
-use Rattle.machine.proofs.Falls.{fit_of}
+use Rattle.machine.proofs.Machine.{Stance, waits, at, has, mygroup, step_waiting, Move, step, act, with_stance, with_stance_same, with_stance_other, with_stance_each, Machine, moved}
+use Rattle.machine.proofs.Invariant.{Free, Inv, Home, moved_nothing_new}
+use Rattle.machine.proofs.Potential.{quick}
+use Rattle.machine.proofs.Falls.{away}
 
 -- own steps still needed, at an index of another arm (its mygroup is the side, or not) and at the own index
 abbrev abroad_rank : Bool → WaitingPlace → ℕ
@@ -56,8 +55,8 @@ needed_others δ e e' n s w a a' j p f h = grind arith
 mine_act : (m : Move) (δ : Kind) (n : ℕ) (β : Bool) (arms : ℕ → Stance) (s : Bool) (a : Stance) → T (not (has (not s) a)) → T (mine δ s a) → T (mine δ s (act m δ n β arms a))
 mine_act m δ n β arms s a h q = grind arith
 
-pub free_none : (β : Bool) (arms : ℕ → Stance) (s : Bool) → Free β arms s → T (same_bit β s) → (k : ℕ) → T (not (has (not s) (arms k)))
-free_none β arms s free q k = none_of (has (not s) (arms k)) (λ h. opposite β s q (same_sym β (not s) (free k h)))
+pub free_none : (β : Bool) (arms : ℕ → Stance) (s : Bool) → Free β arms s → (k : ℕ) → T (same_bit β s) → T (not (has (not s) (arms k)))
+free_none β arms s free k q = none_of (has (not s) (arms k)) (λ h. opposite β s q (same_sym β (not s) (free k h)))
 
 needed_keeps : (δ : Kind) (e : Bool) (n : ℕ) (s : Bool) (w : ℕ) (arms : ℕ → Stance) (r x : Stance) → needed_of δ e n s w (with_stance arms w r) x ≤ needed_of δ e n s w arms x
 needed_keeps δ e n s w arms r x = grind arith
@@ -67,13 +66,9 @@ abbrev pub needs : Machine → Bool → ℕ → ℕ
 needs g s w = needed_of g.kind (same_bit g.group s) g.n s w g.arms (g.arms w)
 
 module _ (g : Machine) (inv : Inv g) (w : ℕ) (s : Bool) (j : ℕ) (p : WaitingPlace) (e : g.arms w ≡ waits s j p) (free : Free g.group g.arms s) where
-  fit_w : (i : ℕ) → Fit g.group s (g.arms i)
-  fit_w i = fit_of g w s (has_own g inv w s j p e) (g.arms i) (inv.own i)
-
   pub free_after : (m : Move) (i : ℕ) → Free (moved g m i).group (moved g m i).arms s
   free_after m i k h = ⊎_elim
-      (λ q. let q' = turn_away m g.group s (g.arms i) (fit_w i) q in
-      absurd (⊎_elim (λ x. opposite g.group s q' (same_sym g.group (not s) (free k x.0))) (λ x. opposite g.group s q' x) (with_stance_nothing_new g.group g.arms i _ (act_nothing_new m g.kind g.n g.group g.arms (g.arms i)) k (not s) h)))
+      (λ q. let q' = away g inv w s j p e m i q in absurd (⊎_elim (λ x. opposite g.group s q' (same_sym g.group (not s) (free k x.0))) (opposite g.group s q') (moved_nothing_new g m i k (not s) h)))
       (λ d. differ (moved g m i).group s d)
       (test (same_bit (moved g m i).group s))
 
@@ -82,30 +77,19 @@ module _ (g : Machine) (inv : Inv g) (w : ℕ) (s : Bool) (j : ℕ) (p : Waiting
       let E : Bool = same_bit g.group s in
       let E' : Bool = same_bit (moved g m i).group s in
       let arms' : ℕ → Stance = (moved g m i).arms in
-      let r₁ : needed_of g.kind E' g.n s w arms' (arms' w) ≡ needed g.kind E' g.n s w (arms' j) j p = ap (needed_of g.kind E' g.n s w arms') (with_stance_other g.arms i _ w (λ q. ne (sym q)) ∙ e) in
-      let r₂ : needed_of g.kind E g.n s w g.arms (g.arms w) ≡ needed g.kind E g.n s w (g.arms j) j p = ap (needed_of g.kind E g.n s w g.arms) e in
-      let x : needed g.kind E' g.n s w (arms' j) j p ≤ needed g.kind E g.n s w (g.arms j) j p = needed_others g.kind E E' g.n s w (g.arms j) (arms' j) j p (turn_away m g.group s (g.arms i) (fit_w i))
-      (λ q h. by (λ y. T (mine g.kind s y)) (eqb j i) (act m g.kind g.n g.group g.arms (g.arms i)) (g.arms j)
-      (λ t. mine_act m g.kind g.n g.group g.arms s (g.arms i) (free_none g.group g.arms s free q i) (subst (λ y. T (mine g.kind s (g.arms y))) (eqb→eq j i t) h)) (λ t. h)) in
-      omega arith
+      let x = needed_others g.kind E E' g.n s w (g.arms j) (arms' j) j p (away g inv w s j p e m i)
+      (λ q. with_stance_each (λ k a. T (mine g.kind s (g.arms k)) → T (mine g.kind s a)) g.arms i _ (mine_act m g.kind g.n g.group g.arms s (g.arms i) (free_none g.group g.arms s free i q)) (λ k h. h) j) in
+      rw (with_stance_other g.arms i _ w (λ q. ne (sym q)), e) x
 
   pub needs_mine : 1 ≤ j → j ≤ g.n → T (not (at P.D (g.arms j))) → needs (moved g step w) s w + 1 ≤ needs g s w
   needs_mine lo hi calm =
-      let E : Bool = same_bit g.group s in
       let r : Stance = step_waiting g.kind g.n g.group (g.arms j) s j p in
-      let arms' : ℕ → Stance = with_stance g.arms w r in
-      let r₁ : needed_of g.kind E g.n s w arms' (arms' w) ≡ needed_of g.kind E g.n s w arms' r = ap (needed_of g.kind E g.n s w arms') (with_stance_same g.arms w r) in
-      let r₂ : needed_of g.kind E g.n s w g.arms (g.arms w) ≡ needed g.kind E g.n s w (g.arms j) j p = ap (needed_of g.kind E g.n s w g.arms) e in
-      let x = needed_keeps g.kind E g.n s w g.arms r r in
-      let y = needed_own g.n s w g.arms j lo hi calm (λ t. subst (λ z. T (same_bit (mygroup z) s)) (sym (ap g.arms (eqb→eq j w t) ∙ e)) (same_refl s)) g.kind g.group p (subst (λ z. Home w z) e (inv.home w)) (λ q. free_none g.group g.arms s free q j) in
-      subst (λ z. needed_of g.kind (same_bit (turn_step g.group z) s) g.n s w (with_stance g.arms w (step_arm g.kind g.n g.group g.arms z)) (with_stance g.arms w (step_arm g.kind g.n g.group g.arms z) w) + 1 ≤ needed_of g.kind E g.n s w g.arms (g.arms w)) (sym e) (omega arith)
+      let x = needed_keeps g.kind (same_bit g.group s) g.n s w g.arms r r in
+      let y = needed_own g.n s w g.arms j lo hi calm (λ t. subst (λ z. T (same_bit (mygroup z) s)) (sym (ap g.arms (eqb→eq j w t) ∙ e)) (same_refl s)) g.kind g.group p (subst (Home w) e (inv.home w)) (free_none g.group g.arms s free j) in
+      rw (with_stance_same g.arms w _, e) (omega arith)
 
   pub needs_some : 1 ≤ needs g s w
-  needs_some = subst (λ y. 1 ≤ needed_of g.kind (same_bit g.group s) g.n s w g.arms y) (sym e) (some (same_bit g.group s))
-    where
-      some : (b : Bool) → 1 ≤ needed g.kind b g.n s w (g.arms j) j p
-      some b = grind arith
+  needs_some = rw e (grind arith)
 
   pub needs_bound : 1 ≤ w → w ≤ g.n → 1 ≤ j → j ≤ g.n → needs g s w ≤ 8 * g.n
-  needs_bound wlo whi lo hi =
-      subst (λ y. needed_of g.kind (same_bit g.group s) g.n s w g.arms y ≤ 8 * g.n) (sym e) (needed_bound g.kind (same_bit g.group s) g.n s w (g.arms j) j p wlo whi lo hi)
+  needs_bound wlo whi lo hi = rw e (needed_bound g.kind (same_bit g.group s) g.n s w (g.arms j) j p wlo whi lo hi)

@@ -1,11 +1,10 @@
 -- The machine shows the three rules: every move of it is a change of its meaning.
-use Rattle.std.proofs.Common.{◌≡◌, ℕ, Bool, true, not, T, sym, ap, subst, ⊎_elim, arith}
-use Rattle.gate_model.specs.Meaning.{Stage, resting, coming, read, waiting, inside as within, leaving, turned, has as stage_has, phase as stage_phase_of, Meaning}
+use Rattle.std.proofs.Common.{ℕ, Bool, true, not, T, sym, ap, subst, arith}
+use Rattle.gate_model.specs.Meaning.{Stage, resting, coming, read, waiting, inside as within, leaving, turned, has as stage_has, Meaning}
 use Rattle.gate_model.proofs.Changes.{Goes, rests, begins, reads, ends, enters, leaves, turns, quits, Change}
-use Rattle.machine.specs.Kinds.{Kind, three_bits, four_valued, WaitingPlace}
-use Rattle.machine.proofs.Machine.{Stance, idle, d1, d2, d3, d4, d5, waits, inside, x1, x2, phase, has, step_waiting, step_arm, turn_step, Move, begin, step, admit, leave, act, turn, with_stance_same, with_stance_other, Machine, moved}
-use Rattle.machine.proofs.Invariant.{Own, Inv, Free, Ranged, wait_own}
-use Rattle.machine.proofs.Waiting.{wait_out}
+use Rattle.machine.specs.Kinds.{Kind, three_bits, four_valued}
+use Rattle.machine.proofs.Machine.{Stance, idle, d1, d2, d3, d4, d5, waits, inside, x1, x2, has, outcome, Move, begin, step, admit, leave, act, turn, with_stance_same, with_stance_other, Machine, moved}
+use Rattle.machine.proofs.Invariant.{Own, Inv, Ranged, wait_own}
 
 abbrev pub stage : Stance → Stage
 stage (idle g) = resting
@@ -22,36 +21,22 @@ stage (x2 s) = turned s
 abbrev pub meaning : Machine → Meaning
 meaning g = record { bit = g.group; arms = λ k. stage (g.arms k) }
 
--- it has the same phase
-pub stage_phase : (a : Stance) → stage_phase_of (stage a) ≡ phase a
-stage_phase a = grind arith
-
+-- the side of its stage is the arm's
 stage_side : (a : Stance) (t : Bool) → T (stage_has t (stage a)) → T (has t a)
 stage_side a t h = grind arith
 
 module _ (n : ℕ) (β : Bool) (arms : ℕ → Stance) (range : Ranged n arms) where
-  wait_goes : (δ : Kind) (s : Bool) (j : ℕ) (p : WaitingPlace) → Own n β arms (waits s j p) → Goes β (λ k. stage (arms k)) (waiting s) (stage (step_waiting δ n β (arms j) s j p)) β
-  wait_goes δ s j p o = ⊎_elim
-      (λ x. subst (λ y. Goes β (λ k. stage (arms k)) (waiting s) (stage y) β) (sym x.2) rests)
-      (λ e.
-      let free : Free β arms s = subst (Own n β arms) e (wait_own n β arms range δ s j p o) in
-      subst (λ y. Goes β (λ k. stage (arms k)) (waiting s) (stage y) β) (sym e) (enters (λ k h. free k (stage_side (arms k) (not s) h))))
-      (wait_out δ n β (arms j) s j p)
-
-  step_goes : (δ : Kind) (a : Stance) → Own n β arms a → Goes β (λ k. stage (arms k)) (stage a) (stage (step_arm δ n β arms a)) (turn_step β a)
-  step_goes three_bits (d2 g) o = reads
-  step_goes four_valued (d2 g) o = reads
-  step_goes four_valued (d3 s g) o = ends
-  step_goes four_valued (d4 s) o = ends
-  step_goes δ (d5 s) o = ends
-  step_goes δ (waits s j p) o = wait_goes δ s j p o
-  step_goes δ (x1 s) o = turns
-  step_goes δ (x2 s) o = quits
-  step_goes δ a o = rests
-
   act_goes : (m : Move) (δ : Kind) (a : Stance) → Own n β arms a → Goes β (λ k. stage (arms k)) (stage a) (stage (act m δ n β arms a)) (turn m β a)
   act_goes begin δ (idle g) o = begins
-  act_goes step δ a o = step_goes δ a o
+  act_goes step three_bits (d2 g) o = reads
+  act_goes step four_valued (d2 g) o = reads
+  act_goes step four_valued (d3 s g) o = ends
+  act_goes step four_valued (d4 s) o = ends
+  act_goes step δ (d5 s) o = ends
+  act_goes step δ (waits s j p) o = outcome (λ r. Own n β arms r → Goes β (λ k. stage (arms k)) (waiting s) (stage r) β) δ n β (arms j) s
+      (λ j p h. rests) (λ free. enters (λ k h. free k (stage_side (arms k) (not s) h))) j p (wait_own n β arms range δ s j p o)
+  act_goes step δ (x1 s) o = turns
+  act_goes step δ (x2 s) o = quits
   act_goes admit δ (inside s x) o = rests
   act_goes leave δ (inside s true) o = leaves
   act_goes m δ a o = rests

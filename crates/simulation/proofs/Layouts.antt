@@ -1,10 +1,55 @@
 -- The layouts of both kinds of door: where an arm's cells lie, what they hold, and what an arm does at each stance.
-use Rattle.std.proofs.Common.{◌≡◌, ℕ, suc, zero, ◌-◌, ◌*◌, ◌≤◌, ◌<◌, Bool, true, false, T, arith}
+use Rattle.std.proofs.Common.{◌≡◌, ℕ, suc, zero, ◌-◌, ◌*◌, ◌≤◌, ◌<◌, Bool, true, false, cond, eqb, ◌≢◌, T, Some, None, Option, arith}
 use Rattle.std.proofs.lemmas.Bool.Decides.{nat_tests}
+use Rattle.gate_model.specs.Registers.{group}
+use Rattle.gate_model.specs.Arms.{side_of}
+use Rattle.gate_model.specs.History.{of_group}
+use Rattle.gate_model.specs.declared.access.Access.{Access}
+use Rattle.gate_model.specs.declared.access.Access.TheVariants as A
 use Rattle.gate_model.specs.declared.phase.Phase.TheVariants as P
 use Rattle.machine.specs.Kinds.{Kind, three_bits, four_valued, WaitingPlace, W1, W2, W3, W4, W5, W6}
-use Rattle.machine.proofs.Machine.{Stance, idle, d1, d2, d3, d4, d5, waits, inside, x1, x2, at, choosing, mygroup, flag, step_waiting, outcome, step_arm, turn_step, may_step}
-use Rattle.simulation.proofs.Plans.{bit_number, Deed, rest, ask, look, tell, turn, is_ask, is_d2, turned_by, told_by, Layout}
+use Rattle.machine.proofs.Machine.{Stance, idle, d1, d2, d3, d4, d5, waits, inside, x1, x2, at, side, choosing, mygroup, flag, outcome, step_arm, turn_step, may_step}
+
+abbrev pub bit_number : Bool → ℕ
+bit_number true = 1
+bit_number false = 0
+
+abbrev pub side_bit : Option Bool → Option ℕ
+side_bit (Some s) = Some (bit_number s)
+side_bit None = None
+
+-- the side in a record, as a number
+abbrev pub side_number : Stance → ℕ
+side_number a = side_of (side_bit (side a))
+
+-- what an access does, told of the arms: nothing; it reads the bit; it reads cell c of arm j; it writes its own cell c; it writes the bit
+pub data Deed : Type 0 where
+  rest ask : Deed
+  look tell : ℕ → ℕ → Deed
+  turn : ℕ → Deed
+
+-- in which stances the bit is read, and past the first exit step
+abbrev pub is_d2 : Stance → Bool
+is_d2 (d2 x) = true
+is_d2 a = false
+
+abbrev pub is_x2 : Stance → Bool
+is_x2 (x2 u) = true
+is_x2 a = false
+
+-- the arm that a waiting arm looks at, else 0
+abbrev pub looks_at : Stance → ℕ
+looks_at (waits u j p) = j
+looks_at a = 0
+
+-- the bit, and cell c of the arm itself, after a deed
+abbrev pub turned_by : Deed → ℕ → ℕ
+turned_by (turn v) old = v
+turned_by d old = old
+
+abbrev pub told_by : ℕ → Deed → ℕ → ℕ
+told_by c (tell e v) old = cond (eqb c e) v old
+told_by c d old = old
 
 -- the highest value that a register holds
 abbrev pub highest : Kind → ℕ
@@ -52,10 +97,8 @@ looking four_valued j p = look 0 j
 
 -- what an arm does; at d3 and d4, where the second kind never is, it would do as at d5
 abbrev pub deed : Kind → Stance → Deed
-deed δ (idle g) = rest
 deed δ (d2 g) = ask
 deed δ (waits s j p) = looking δ j p
-deed δ (inside s o) = rest
 deed δ (x1 s) = turn (1 - bit_number s)
 deed three_bits (d1 g) = tell 0 1
 deed three_bits (d3 s g) = tell 1 (bit_number s)
@@ -67,13 +110,27 @@ deed four_valued (d3 s g) = tell 0 (bit_number s)
 deed four_valued (d4 s) = tell 0 (bit_number s)
 deed four_valued (d5 s) = tell 0 (bit_number s)
 deed four_valued (x2 s) = tell 0 3
+deed δ a = rest
+
+-- the access of arm i by its deed, and the value that it reads
+abbrev pub access_for : Kind → Deed → ℕ → Access
+access_for δ rest i = A.Nothing
+access_for δ ask i = A.Read group
+access_for δ (look c j) i = A.Read (cell δ c j)
+access_for δ (tell c v) i = A.Write (cell δ c i) v
+access_for δ (turn v) i = A.Write group v
+
+abbrev pub read_by_deed : Kind → Bool → (ℕ → Stance) → Deed → ℕ
+read_by_deed δ β arms ask = bit_number β
+read_by_deed δ β arms (look c j) = holds δ c (arms j)
+read_by_deed δ β arms d = 0
 
 -- what deeds there are
 pub rests : (δ : Kind) (a : Stance) → deed δ a ≡ rest → ¬ (T (may_step a))
 rests δ a e k = grind arith
 
-pub asks : (δ : Kind) (a : Stance) → T (at P.D a) → is_ask (deed δ a) ≡ is_d2 a
-asks δ a h = grind arith
+pub reads_group : (δ : Kind) (i : ℕ) (a : Stance) → T (at P.D a) → of_group (access_for δ (deed δ a) i) ≡ is_d2 a
+reads_group δ i a h = grind (arith, nat_tests)
 
 pub looks : (δ : Kind) (a : Stance) (c j : ℕ) → deed δ a ≡ look c j → (c < cells δ) × ((u : Bool) × (p : WaitingPlace) × (a ≡ waits u j p))
 looks δ a c j e = grind arith
@@ -85,48 +142,16 @@ pub turns : (δ : Kind) (a : Stance) (v : ℕ) → deed δ a ≡ turn v → v �
 turns δ a v e = grind arith
 
 -- they keep the cells and the bit in step with the machine
-told_waiting : (δ : Kind) (n : ℕ) (β : Bool) (b : Stance) (u : Bool) (c : ℕ) (j : ℕ) (p : WaitingPlace) → holds δ c (step_waiting δ n β b u j p) ≡ holds δ c (waits u 1 W1)
-told_waiting δ n β b u c = outcome (λ r. holds δ c r ≡ holds δ c (waits u 1 W1)) δ n β b u (λ j p. grind arith) (grind arith)
+pub cells_follow : (δ : Kind) (n : ℕ) (β : Bool) (arms : ℕ → Stance) (a : Stance) (c : ℕ) → c < cells δ → T (may_step a) → holds δ c (step_arm δ n β arms a) ≡ told_by c (deed δ a) (holds δ c a)
+cells_follow δ n β arms (waits u j p) c cl k = outcome (λ r. holds δ c r ≡ told_by c (deed δ (waits u j p)) (holds δ c (waits u j p))) δ n β (arms j) u (λ j p. grind arith) (grind arith) j p
+cells_follow δ n β arms a c cl k = grind (arith, nat_tests)
 
-pub told : (δ : Kind) (n : ℕ) (β : Bool) (arms : ℕ → Stance) (a : Stance) (c : ℕ) → c < cells δ → T (may_step a) → holds δ c (step_arm δ n β arms a) ≡ told_by c (deed δ a) (holds δ c a)
-told δ n β arms (waits u j p) c cl k = let x = told_waiting δ n β (arms j) u c j p in grind arith
-told δ n β arms a c cl k = grind (arith, nat_tests)
-
-pub bits : (δ : Kind) (β : Bool) (a : Stance) → T (may_step a) → bit_number (turn_step β a) ≡ turned_by (deed δ a) (bit_number β)
-bits δ β a k = grind arith
-
-pub same_begun : (δ : Kind) (c : ℕ) (x : Bool) → holds δ c (d1 x) ≡ holds δ c (idle x)
-same_begun δ c x = grind arith
-
-pub same_pass : (δ : Kind) (c : ℕ) (u : Bool) → holds δ c (inside u true) ≡ holds δ c (inside u false)
-same_pass δ c u = grind arith
-
-pub same_left : (δ : Kind) (c : ℕ) (u : Bool) → holds δ c (x1 u) ≡ holds δ c (inside u true)
-same_left δ c u = grind arith
+pub bit_follows : (δ : Kind) (β : Bool) (a : Stance) → T (may_step a) → bit_number (turn_step β a) ≡ turned_by (deed δ a) (bit_number β)
+bit_follows δ β a k = grind arith
 
 -- the registers: apart from one another and from the bit
 pub apart : (δ : Kind) (c e k i : ℕ) → c < cells δ → e < cells δ → 1 ≤ k → 1 ≤ i → cell δ c k ≡ cell δ e i → (c ≡ e) × (k ≡ i)
 apart δ c e k i cl el kl il q = grind arith
 
-pub past_bit : (δ : Kind) (c k : ℕ) → c < cells δ → 1 ≤ k → 1 ≤ cell δ c k
-past_bit δ c k cl kl = grind arith
-
-abbrev pub layout_of : (δ : Kind) → Layout δ (highest δ)
-layout_of δ = record {
-  cells = cells δ;
-  cell = cell δ;
-  holds = holds δ;
-  deed = deed δ;
-  rests = rests δ;
-  asks = asks δ;
-  looks = looks δ;
-  tells = tells δ;
-  turns = turns δ;
-  told = told δ;
-  bits = bits δ;
-  same_begun = same_begun δ;
-  same_pass = same_pass δ;
-  same_left = same_left δ;
-  apart = apart δ;
-  past_bit = past_bit δ;
-}
+pub past_bit : (δ : Kind) (c k : ℕ) → c < cells δ → 1 ≤ k → cell δ c k ≢ group
+past_bit δ c k cl kl e = grind arith

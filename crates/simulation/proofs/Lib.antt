@@ -1,5 +1,5 @@
-pub mod Plans
 pub mod Layouts
+pub mod Plans
 pub mod Deeds
 pub mod Simulates
 pub mod EveryCall

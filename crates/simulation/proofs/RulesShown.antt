@@ -1,8 +1,7 @@
 -- From a making on a door with a plan shows the rules of the meaning.
-use Rattle.std.proofs.Common.{◌≡◌, ℕ, ◌≤◌, Bool, false, T, eqb, ◌≢◌, List, Option, sym, refl, ap, ◌∙◌, subst, ⊎_elim, arith}
+use Rattle.std.proofs.Common.{◌≡◌, ℕ, ◌≤◌, Bool, true, false, T, List, Option, sym, refl, ap, ◌∙◌, ⊎_elim, arith}
 use Rattle.std.proofs.lemmas.Bool.Decides.{nat_tests}
-use Rattle.std.proofs.lemmas.Bool.{cases_eq, cond-false, ne_eqb}
-use Rattle.gate_model.specs.Registers.{group}
+use Rattle.std.proofs.lemmas.Bool.{cases_eq}
 use Rattle.gate_model.specs.Making.{Making}
 use Rattle.gate_model.specs.Table.{Table}
 use Rattle.gate_model.specs.Arms.{side_of}
@@ -15,11 +14,12 @@ use Rattle.gate_model.specs.declared.phase.Phase.TheVariants as P
 use Rattle.gate_model.proofs.Changes.{rests, Change, keeps_of}
 use Rattle.gate_model.proofs.Bools.{by, test, clash}
 use Rattle.gate_model.proofs.Accepted.{arm_in, arm_is}
-use Rattle.machine.proofs.Machine.{Stance, idle, d1, x1, phase, side, at, Machine, moved}
+use Rattle.machine.proofs.Machine.{Stance, idle, d1, inside, x1, phase, side, at, Machine, moved}
 use Rattle.machine.proofs.Invariant.{Inv, inv_moved}
 use Rattle.machine.proofs.Rules.{stage, meaning, move_change}
-use Rattle.simulation.proofs.Plans.{bit_number, side_bit, is_x2, Plan}
-use Rattle.simulation.proofs.Simulates.{register, Simulates, phase_is}
+use Rattle.simulation.proofs.Layouts.{bit_number, side_bit, is_x2}
+use Rattle.simulation.proofs.Plans.{Plan}
+use Rattle.simulation.proofs.Simulates.{Simulates, phase_is, bit_shown}
 use Rattle.simulation.proofs.EveryCall.{CallSimulated, stays, goes, came, sound}
 
 -- a state that simulates a machine means what the machine means
@@ -41,17 +41,10 @@ idle_stage a h = grind arith
 rest_change : (m : Meaning) (i : ℕ) → Change m m i
 rest_change m i = record { goes = rests; frame = λ k ne. refl }
 
-change_like : (m m' n n' : Meaning) (i j : ℕ) → m ≡ n → m' ≡ n' → i ≡ j → Change n n' i → Change m m' j
-change_like m m' n n' i j e e' q c = rw (e, e', sym q) c
-
 module _ {At : Type 0} {door : Table At} {plan : Plan door} where
   arm_meant : (s : State At) (g : Machine) (mir : Simulates plan s g) (k : ℕ) → 1 ≤ k → k ≤ s.n → stage_of (phase_at door s k) (door.turned (arm_at door s k).position) (arm_at door s k).side ≡ stage (g.arms k)
   arm_meant s g mir k lo hi =
-      let h = mir.shows k lo hi in
-      ap (λ p. stage_of p (door.turned (arm_at door s k).position) (arm_at door s k).side) (phase_is s g mir k lo hi)
-      ∙ ap (λ t. stage_of (phase (g.arms k)) t (arm_at door s k).side) (ap door.turned h.stands ∙ plan.turned (g.arms k))
-      ∙ ap (stage_of (phase (g.arms k)) (is_x2 (g.arms k))) h.sided
-      ∙ stage_is (g.arms k)
+      let h = mir.shows k lo hi in rw (phase_is s g mir k lo hi, h.stands, h.sided, plan.turned (g.arms k)) (stage_is (g.arms k))
 
   pub arms_meant : (s : State At) (g : Machine) → Simulates plan s g → Inv g → (k : ℕ) → (meaning_of door s).arms k ≡ stage (g.arms k)
   arms_meant s g mir inv k =
@@ -61,24 +54,13 @@ module _ {At : Type 0} {door : Table At} {plan : Plan door} where
       (λ a. let r = inv.awake k a in absurd (clash (is_arm s k) (arm_is s k r.0 (let z = mir.size in let y = r.1 in omega arith)) d))
       (test (at P.I (g.arms k))))
 
-  bit_meant : (s : State At) (g : Machine) → Simulates plan s g → 1 ≤ s.n → is_one (bit_of s) ≡ g.group
-  bit_meant s g mir some = ap is_one (cond-false (eqb s.n 0) 0 (register s group) (ne_eqb s.n 0 (omega arith)) ∙ mir.group_is) ∙ one_bit g.group
-
   meant : (s : State At) (g : Machine) → Simulates plan s g → Inv g → 1 ≤ s.n → meaning_of door s ≡ meaning g
-  meant s g mir inv some = λ i. record { bit = bit_meant s g mir some i; arms = λ k. arms_meant s g mir inv k i }
+  meant s g mir inv some = λ i. record { bit = (ap is_one (bit_shown s g mir some) ∙ one_bit g.group) i; arms = λ k. arms_meant s g mir inv k i }
 
   call_change : (s : State At) (g : Machine) → Simulates plan s g → Inv g → 1 ≤ s.n → (c : Call) → CallSimulated plan g s c → Change (meaning_of door s) (meaning_of door (after door s c)) (arm_of c)
-  call_change s g mir inv some c (stays mir' _ _) =
-      change_like _ _ _ _ _ _ (meant s g mir inv some) (meant (after door s c) g mir' inv (let x = mir.size in let y = mir'.size in omega arith)) refl (rest_change (meaning g) (arm_of c))
+  call_change s g mir inv some c (stays mir' _ _) = rw (meant s g mir inv some, meant (after door s c) g mir' inv (let x = mir.size in let y = mir'.size in omega arith)) (rest_change (meaning g) (arm_of c))
   call_change s g mir inv some c (goes m i lo hi k mir' _ _ e) =
-      change_like _ _ _ _ _ _ (meant s g mir inv some) (meant (after door s c) (moved g m i) mir' (inv_moved g inv m i lo hi) (let x = mir.size in let y = mir'.size in omega arith)) e (move_change g inv m i)
-
-  -- the bit and the sides are bits
-  bit_bound : (s : State At) (g : Machine) → Simulates plan s g → 1 ≤ s.n → bit_of s ≤ 1
-  bit_bound s g mir some = let x = mir.group_is in let y = bit_low g.group in grind (arith, nat_tests)
-
-  side_bound : (s : State At) (g : Machine) → Simulates plan s g → (i : ℕ) → 1 ≤ i → i ≤ s.n → side_of (arm_at door s i).side ≤ 1
-  side_bound s g mir i lo hi = subst (λ o. side_of o ≤ 1) (sym (mir.shows i lo hi).sided) (side_low (side (g.arms i)))
+      rw (meant s g mir inv some, meant (after door s c) (moved g m i) mir' (inv_moved g inv m i lo hi) (let x = mir.size in let y = mir'.size in omega arith), sym e) (move_change g inv m i)
 
 -- a gate with no arms stays as it is
 stands_still : {At : Type 0} (door : Table At) (s : State At) (c : Call) → s.n ≡ 0 → after door s c ≡ s
@@ -88,8 +70,8 @@ module _ {At : Type 0} {door : Table At} (plan : Plan door) where
   pub phased_by : Phased door
   phased_by = record {
     idle = ap door.phase (sym (plan.at_rest false)) ∙ plan.phased (idle false);
-    entry = ap door.phase (sym (plan.at_entry false)) ∙ plan.phased (d1 false);
-    exit = ap door.phase (sym (plan.at_exit false)) ∙ plan.phased (x1 false);
+    entry = ap door.phase (plan.at_entry (idle false) tt) ∙ plan.phased (d1 false);
+    exit = ap door.phase (plan.at_exit (inside false true) tt) ∙ plan.phased (x1 false);
   }
 
   module _ (making : Making) (past : List Call) where
@@ -98,21 +80,21 @@ module _ {At : Type 0} {door : Table At} (plan : Plan door) where
 
     change : (c : Call) → Change (meaning_of door now) (meaning_of door (after door now c)) (arm_of c)
     change c = ⊎_elim
-        (λ z. change_like _ _ _ _ _ _ refl (ap (meaning_of door) (stands_still door now c z)) refl (rest_change (meaning_of door now) (arm_of c)))
+        (λ z. rw (stands_still door now c z) (rest_change (meaning_of door now) (arm_of c)))
         (λ ne. let h = sound plan making past (omega arith) in call_change now h.machine h.simulates h.keeps (omega arith) c (came now h.machine h.simulates h.keeps c))
         (cases_eq now.n 0)
 
     bit_low_now : bit_of now ≤ 1
     bit_low_now = ⊎_elim
         (λ z. grind (arith, nat_tests))
-        (λ ne. let h = sound plan making past (omega arith) in bit_bound now h.machine h.simulates (omega arith))
+        (λ ne. let h = sound plan making past (omega arith) in rw (bit_shown now h.machine h.simulates (omega arith)) (bit_low h.machine.group))
         (cases_eq now.n 0)
 
     sides_low : (i : ℕ) → T (is_arm now i) → side_of (arm_at door now i).side ≤ 1
     sides_low i t =
         let r = arm_in now i t in
         let h = sound plan making past (let lo = r.0 in let hi = r.1 in omega arith) in
-        side_bound now h.machine h.simulates i r.0 r.1
+        rw (h.simulates.shows i r.0 r.1).sided (side_low (side (h.machine.arms i)))
 
   pub rules_by : ShowsRules door
   rules_by making past c = keeps_of _ _ _ (change making past c)

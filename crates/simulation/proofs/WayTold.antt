@@ -1,32 +1,21 @@
 -- An arm is free to go or barred; what way tells is which, and that is right of way.
-use Rattle.std.proofs.Common.{◌≡◌, ℕ, zero, suc, ◌+◌, ◌-◌, ◌<◌, ◌≤◌, Bool, not, T, eqb, ◌⊎◌, ◌↔◌, List, [], ◌∷◌, get_or, Option, sym, ap, ◌∙◌, subst, inl, inr, ⊎_elim, arith}
-use Rattle.std.proofs.lemmas.Bool.{ne_eqb, cond-false}
-use Rattle.gate_model.specs.Registers.{group}
+use Rattle.std.proofs.Common.{◌≡◌, ℕ, zero, suc, ◌+◌, ◌-◌, ◌<◌, ◌≤◌, Bool, not, ◌||◌, T, ◌↔◌, List, [], ◌∷◌, get_or, Option, sym, ap, ◌∙◌, subst, ⊎_elim, arith}
 use Rattle.gate_model.specs.Arms.{no_arm, side_of, has_side}
-use Rattle.gate_model.specs.States.{State, arm_at, bit_of}
+use Rattle.gate_model.specs.States.{State, arm_at}
 use Rattle.gate_model.specs.Calls.{some_side, has_way}
 use Rattle.gate_model.specs.History.{RightOfWay}
 use Rattle.gate_model.specs.declared.arm.Arm.{Arm}
 use Rattle.gate_model.specs.Table.{Table}
-use Rattle.gate_model.proofs.Bools.{same_bit, same_sym, opposite, differ, test, clash, none_of, or_T, T_or_left, T_or_right}
+use Rattle.gate_model.proofs.Bools.{same_bit, same_sym, opposite, test, none_of, or_T, T_or_left, T_or_right}
 use Rattle.machine.proofs.Machine.{Machine, side, is_side, has}
-use Rattle.machine.proofs.Invariant.{Free, Inv}
-use Rattle.machine.proofs.Waiting.{Waiting, find}
-use Rattle.simulation.proofs.Plans.{bit_number, side_bit, bit_not, bit_number_same, Plan}
-use Rattle.simulation.proofs.Simulates.{register}
+use Rattle.machine.proofs.Invariant.{Free}
+use Rattle.machine.proofs.Waiting.{Waiting, Barred, free_or_barred}
+use Rattle.simulation.proofs.Layouts.{bit_number, side_bit}
+use Rattle.simulation.proofs.Plans.{bit_not, bit_number_same, Plan}
+use Rattle.simulation.proofs.Simulates.{bit_shown}
 use Rattle.simulation.proofs.EveryCall.{Sound}
 use Rattle.simulation.proofs.HasWay.{free_way}
 use Rattle.simulation.proofs.Blocked.{no_way}
-
--- the group is sd and arm k has the other side
-abbrev pub Barred : Machine → Bool → Type 0
-Barred g sd = T (same_bit g.group sd) × ((k : ℕ) × T (has (not sd) (g.arms k)))
-
-pub free_or_barred : (g : Machine) → Inv g → (sd : Bool) → Free g.group g.arms sd ⊎ Barred g sd
-free_or_barred g inv sd = ⊎_elim
-    (λ x. ⊎_elim (λ q. inr (q, (x.0, x.3))) (λ d. inl (λ k h. differ g.group sd d)) (test (same_bit g.group sd)))
-    (λ none. inl (λ k h. let r = inv.range k (not sd) h in absurd (clash (has (not sd) (g.arms k)) h (none k r.0 r.1))))
-    (find (λ k. has (not sd) (g.arms k)) g.n)
 
 -- sides as bits
 side_same : (v : Bool) (o : Option Bool) → has_side (bit_number v) (side_bit o) ≡ is_side v o
@@ -42,11 +31,9 @@ module _ {At : Type 0} {door : Table At} (plan : Plan door) where
       (or_T (has_side t a.side) (some_side t more n) h)
 
   some_at : (t : ℕ) (arms : List (Arm At)) (n k : ℕ) → k < n → T (has_side t (get_or arms k (no_arm door)).side) → T (some_side t arms n)
-  some_at t arms zero k l h = absurd (omega arith)
-  some_at t [] (suc n) zero l h = absurd h
-  some_at t [] (suc n) (suc k) l h = absurd h
   some_at t (a ∷ more) (suc n) zero l h = T_or_left (has_side t a.side) (some_side t more n) h
   some_at t (a ∷ more) (suc n) (suc k) l h = T_or_right (has_side t a.side) (some_side t more n) (some_at t more n k (omega arith) h)
+  some_at t arms n k l h = grind arith
 
   module _ (s : State At) (n : ℕ) (sound : Sound plan s n) (w : ℕ) (lo : 1 ≤ w) (hi : w ≤ n) (sd : Bool) (wait : Waiting sd (sound.machine.arms w)) where
     abbrev g : Machine
@@ -58,14 +45,8 @@ module _ {At : Type 0} {door : Table At} (plan : Plan door) where
     side_is : side_of (arm_at door s w).side ≡ bit_number sd
     side_is = ap side_of ((sound.simulates.shows w lo (let z = size in omega arith)).sided ∙ ap (λ a. side_bit (side a)) wait.2)
 
-    group_bit : bit_of s ≡ bit_number g.group
-    group_bit = cond-false (eqb s.n 0) 0 (register s group) (ne_eqb s.n 0 (let z = size in omega arith)) ∙ sound.simulates.group_is
-
-    same_told : eqb (bit_of s) (side_of (arm_at door s w).side) ≡ same_bit g.group sd
-    same_told = let x = group_bit in let y = side_is in let z = bit_number_same g.group sd in cc
-
-    other_is : 1 - side_of (arm_at door s w).side ≡ bit_number (not sd)
-    other_is = let x = side_is in let y = bit_not sd in cc
+    told_is : has_way door s w ≡ (not (same_bit g.group sd) || not (some_side (bit_number (not sd)) s.arms s.n))
+    told_is = cc (bit_shown s g sound.simulates (let z = size in omega arith), side_is, bit_number_same g.group sd, bit_not sd)
 
     -- the side of arm k, in the table
     shown_side : (k : ℕ) → k < n → has_side (bit_number (not sd)) (get_or s.arms k (no_arm door)).side ≡ has (not sd) (g.arms (k + 1))
@@ -74,13 +55,13 @@ module _ {At : Type 0} {door : Table At} (plan : Plan door) where
         ∙ (ap (has_side (bit_number (not sd))) (sound.simulates.shows (k + 1) (omega arith) (let z = size in omega arith)).sided ∙ side_same (not sd) (side (g.arms (k + 1))))
 
     free_told : Free g.group g.arms sd → T (has_way door s w)
-    free_told free = ⊎_elim
-        (λ q. T_or_right (not (eqb (bit_of s) (side_of (arm_at door s w).side))) _ (none_of (some_side (1 - side_of (arm_at door s w).side) s.arms s.n) (λ t.
-        let x = some_find (bit_number (not sd)) s.arms s.n (subst (λ z. T (some_side z s.arms s.n)) other_is t) in
+    free_told free = rw told_is (⊎_elim
+        (λ q. T_or_right (not (same_bit g.group sd)) _ (none_of (some_side (bit_number (not sd)) s.arms s.n) (λ t.
+        let x = some_find (bit_number (not sd)) s.arms s.n t in
         let l : x.0 < n = let y = x.1 in let z = size in omega arith in
         opposite g.group sd q (same_sym g.group (not sd) (free (x.0 + 1) (subst T (shown_side x.0 l) x.2))))))
-        (λ d. let e = same_told in grind arith)
-        (test (same_bit g.group sd))
+        (λ d. T_or_left (not (same_bit g.group sd)) _ d)
+        (test (same_bit g.group sd)))
 
     barred_told : Barred g sd → T (has_way door s w) → ⊥
     barred_told (q, (k, foe)) t =
@@ -90,8 +71,7 @@ module _ {At : Type 0} {door : Table At} (plan : Plan door) where
         let back : (k - 1) + 1 ≡ k = let y = r.0 in omega arith in
         let here : T (has_side (bit_number (not sd)) (get_or s.arms (k - 1) (no_arm door)).side) = subst T (sym (shown_side (k - 1) l)) (subst (λ j. T (has (not sd) (g.arms j))) (sym back) foe) in
         let found : T (some_side (bit_number (not sd)) s.arms s.n) = some_at (bit_number (not sd)) s.arms s.n (k - 1) (let z = size in omega arith) here in
-        let x = same_told in
-        let y = other_is in
+        let x = subst T told_is t in
         grind arith
 
     -- right of way is being free to go
