@@ -96,16 +96,11 @@ module _ {At : Type 0} (door : Table At) where
       let all : longest_line * k ≤ longest_line * arm_limit = mul-le longest_line k longest_line arm_limit (omega arith) (omega arith) in
       omega (arith, length-append (first_line s orders refused) (lines (arm_line door s) k), longest_fits)
 
-  -- of a gate in hand
-  page_fits : ShowsBits door → (s : State At) (orders refused k : ℕ) → IsReached door s → orders < 2 ^ 64 → refused < 2 ^ 64 → k ≤ s.n
-      → length (first_line s orders refused ++ lines (arm_line door s) k) ≤ report_room
-  page_fits bits s orders refused k reached o r l =
-      at_most door (length (first_line s orders refused ++ lines (arm_line door s) k)) report_room
-      (λ origin. bounded_fits s orders refused k (bounded_at door s origin) (at_origin door (AreBits door) bits s origin) o r l) reached
-
-  -- so there is room for one line more
+  -- of a gate in hand: there is room for one line more
   pub line_fits : ShowsBits door → (s : State At) (orders refused k : ℕ) (page line text : List ℕ) → IsReached door s → orders < 2 ^ 64 → refused < 2 ^ 64 → k < s.n
       → page ≡ first_line s orders refused ++ lines (arm_line door s) k → text ≡ line → line ≡ arm_line door s k → length page + length text ≤ report_room
   line_fits bits s orders refused k page line text reached o r l before is one =
-      let fits = page_fits bits s orders refused (suc k) reached o r (omega arith) in
-      rw before (rw is (rw one (omega (arith, fits, length-append (first_line s orders refused) (lines (arm_line door s) (suc k)), length-append (first_line s orders refused) (lines (arm_line door s) k), length-append (lines (arm_line door s) k) (arm_line door s k)))))
+      let all = length (first_line s orders refused ++ lines (arm_line door s) (suc k)) in
+      let fits : all ≤ report_room =
+      at_most door all report_room (λ origin. bounded_fits s orders refused (suc k) (bounded_at door s origin) (at_origin door (AreBits door) bits s origin) o r (omega arith)) reached in
+      grind (arith, length-append {A = ℕ})
