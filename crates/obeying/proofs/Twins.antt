@@ -1,5 +1,5 @@
 -- Orders at two gates that go the same way come to the same.
-use Rattle.std.proofs.Common.{◌≡◌, ℕ, ◌+◌, if◌then◌else◌, is_some, List, [], ◌∷◌, sym, refl, subst, arith}
+use Rattle.std.proofs.Common.{◌≡◌, ◌+◌, if◌then◌else◌, is_some, List, [], ◌∷◌, sym, refl, subst, arith}
 use Rattle.gate_model.specs.Accesses.{ShowsAccesses}
 use Rattle.gate_model.specs.Calls.{refusal_of, after, unless, left_at_once}
 use Rattle.gate_model.specs.States.{State}

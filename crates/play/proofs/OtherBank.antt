@@ -2,7 +2,6 @@
 use Rattle.std.proofs.Common.{◌≡◌, ℕ, ◌≤◌, List, ◌++◌, length, Ok, Err, Result, sym, refl, ap, ◌∙◌}
 use Rattle.bank.specs.Lent.{Lent}
 use Rattle.gate_model.specs.Accesses.{ShowsAccesses}
-use Rattle.gate_model.specs.Making.{arms_for}
 use Rattle.gate_model.specs.States.{State}
 use Rattle.gate_model.specs.Table.{Table}
 use Rattle.gate_model.proofs.Twins.{Twins, made_twins, bit_same}
