@@ -49,7 +49,9 @@ appended answer order at before after a m = record { to_file = grown }
         let joined = append_assoc file bytes (drop (at + length bytes) before) in
         let longer = flat_map_more (λ o. groups (order_number o)) (groups c.arms) c.orders order in
         let small = list_all-append (λ o. nat_le (order_number o) largest_number) c.orders (order ∷ []) in
-        let is : file_of c.arms (c.orders ++ order ∷ []) ≡ (if nat_le (order_number order) largest_number then if_short (file ++ bytes) else Err Large) = let e = h.is_file in grind (arith, nat_tests) in
+        let e = h.is_file in
+        let is : file_of c.arms (c.orders ++ order ∷ []) ≡ (if nat_le (order_number order) largest_number then if_short (file ++ bytes) else Err Large) =
+        grind (arith, nat_tests) in
         as_written answer (with_order c order) before after (grind (arith, nat_tests, length-append {A = ℕ})) (grind (arith, nat_tests, length-append {A = ℕ}))
 
 -- the same, of an order that was written at its place

@@ -14,9 +14,9 @@ use Rattle.schedule.specs.Writing.{order_bytes}
 use Rattle.schedule.proofs.Groups.{span, ends, Near, near_number, groups_of_number}
 use Rattle.schedule.proofs.OneMoreOrder.{order_is, order_ends, orders_step, orders_fault, orders_end}
 
-pub record Listed (bytes : List ℕ) (os : List Order) : Type 0 where
-  pub near : Near os
-  pub are : bytes ≡ order_bytes os
+record Listed (bytes : List ℕ) (os : List Order) : Type 0 where
+  near : Near os
+  are : bytes ≡ order_bytes os
 
 -- bytes that are a list are its first order and the rest; those that are none are no bytes
 first_back : (place count : ℕ) (bytes : List ℕ) (o : Order) (os : List Order) → orders_from place count bytes ≡ Ok (o ∷ os)

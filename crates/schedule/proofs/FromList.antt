@@ -29,7 +29,10 @@ orders_read place count (o ∷ os) h =
 
 orders_bytes : (os : List Order) → Near os → IsBytes (order_bytes os)
 orders_bytes [] h = All-nil (λ b. b < 256)
-orders_bytes (o ∷ os) h = All-append (λ b. b < 256) (groups (order_number o)) (order_bytes os) (groups_bytes (order_number o) (number_near o (h 0 o (omega arith)))) (orders_bytes os (All-tail (λ x. arm_of_order x ≤ largest_arm) o os h))
+orders_bytes (o ∷ os) h =
+    let first = groups_bytes (order_number o) (number_near o (h 0 o (omega arith))) in
+    let others = orders_bytes os (All-tail (λ x. arm_of_order x ≤ largest_arm) o os h) in
+    All-append (λ b. b < 256) (groups (order_number o)) (order_bytes os) first others
 
 pub reads_back : ReadsBack
 reads_back c l =

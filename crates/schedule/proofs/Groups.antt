@@ -40,7 +40,7 @@ near_number o h = grind arith
 pub number_of_order : (k : ℕ) (o : Order) → order_of k ≡ Some o → order_number o ≡ k
 number_of_order k o e = grind (arith, nat_tests)
 
--- a number that is read is its groups, and ends where they do
+-- a number that is read is its groups
 pub record Grouped (bytes : List ℕ) (n : Number) : Type 0 where
   pub small : n.value ≤ largest_number
   pub are : bytes ≡ groups n.value ++ drop (span bytes) bytes
@@ -50,6 +50,7 @@ groups_of_number place bytes n b e =
     let s = b 0 0 in
     record { small = grind (arith, nat_tests); are = grind (arith, nat_tests) }
 
+-- and ends as many bytes on as it has
 pub record Ends (place : ℕ) (bytes : List ℕ) (n : Number) : Type 0 where
   pub next_is : n.next ≡ place + span bytes
   pub within : span bytes ≤ length bytes
