@@ -1,5 +1,5 @@
 -- Orders at two gates that go the same way come to the same.
-use Rattle.std.proofs.Common.{◌≡◌, ℕ, ◌+◌, if◌then◌else◌, is_some, List, [], ◌∷◌, sym, refl, subst}
+use Rattle.std.proofs.Common.{◌≡◌, ◌+◌, if◌then◌else◌, is_some, List, [], ◌∷◌, sym, refl, subst, arith}
 use Rattle.gate_model.specs.Accesses.{ShowsAccesses}
 use Rattle.gate_model.specs.Calls.{refusal_of, after, unless, left_at_once}
 use Rattle.gate_model.specs.States.{State}
@@ -13,22 +13,18 @@ use Rattle.obeying.specs.Obeying.{order_refusal, obeyed, obeyed_all, refusals, e
 module _ {At : Type 0} (door : Table At) (shown : ShowsAccesses door) where
   -- one order
   order_same : (s t : State At) (o : Order) → Twins door s t → order_refusal door t o ≡ order_refusal door s o
-  order_same s t (Begin i) h = same_refusal door s t (begin i) h.same
-  order_same s t (Step i) h = same_refusal door s t (step i) h.same
-  order_same s t (Leave i) h = same_refusal door s t (admit i) h.same
-
-  left_twins : (s t : State At) (i : ℕ) → Twins door s t → Twins door (left_at_once door s i) (left_at_once door t i)
-  left_twins s t i h =
-      let admitted = after_twins door shown s t (admit i) h in
-      let left = after_twins door shown (after door s (admit i)) (after door t (admit i)) (leave s.number i) admitted in
-      let other_left = subst (λ k. Twins door (after door (after door s (admit i)) (leave s.number i)) (after door (after door t (admit i)) (leave k i))) (sym h.same.number) left in
-      subst (λ r. Twins door (left_at_once door s i) (unless r (after door (after door t (admit i)) (leave t.number i)) t)) (sym (same_refusal door s t (admit i) h.same))
-      (unless_same door (Twins door) (refusal_of door s (admit i)) _ s _ t (λ _. other_left) h)
+  order_same s t o h = let same = h.same in grind (arith, same_refusal)
 
   obeyed_twins : (s t : State At) (o : Order) → Twins door s t → Twins door (obeyed door s o) (obeyed door t o)
   obeyed_twins s t (Begin i) h = after_twins door shown s t (begin i) h
   obeyed_twins s t (Step i) h = after_twins door shown s t (step i) h
-  obeyed_twins s t (Leave i) h = left_twins s t i h
+  obeyed_twins s t (Leave i) h =
+      let x = after door s (admit i) in
+      let y = after door t (admit i) in
+      let left = after_twins door shown x y (leave s.number i) (after_twins door shown s t (admit i) h) in
+      let other_left = subst (λ k. Twins door (after door x (leave s.number i)) (after door y (leave k i))) (sym h.same.number) left in
+      subst (λ r. Twins door (left_at_once door s i) (unless r (after door y (leave t.number i)) t)) (sym (same_refusal door s t (admit i) h.same))
+      (unless_same door (Twins door) (refusal_of door s (admit i)) _ s _ t (λ _. other_left) h)
 
   -- all orders
   pub all_twins : (s t : State At) (os : List Order) → Twins door s t → Twins door (obeyed_all door s os) (obeyed_all door t os)

@@ -1,7 +1,7 @@
 -- A report fits the least memory that is asked for.
-use Rattle.std.proofs.Common.{◌≡◌, ℕ, zero, suc, ◌+◌, ◌-◌, ◌*◌, ◌^◌, ◌<◌, ◌≤◌, List, ◌++◌, length, decimal, slice_index, Some, None, Option, refl, subst, inl, inr, mul-suc, arith, length-append}
+use Rattle.std.proofs.Common.{◌≡◌, ℕ, zero, suc, ◌+◌, ◌-◌, ◌*◌, ◌^◌, ◌<◌, ◌≤◌, List, ◌++◌, length, decimal, slice_index, Option, refl, mul-suc, arith, length-append}
 use Rattle.std.specs.Fmt.{digits}
-use Rattle.std.proofs.lemmas.Bool.{cases_lt, leb-true, ltb-true}
+use Rattle.std.proofs.lemmas.Bool.{leb-true, ltb-true}
 use Rattle.std.proofs.lemmas.Fmt.{length-decimal-le}
 use Rattle.std.proofs.lemmas.Nat.{mul-le}
 use Rattle.gate_model.specs.Limits.{arm_limit, tally_limit}
@@ -47,8 +47,7 @@ digits_short : (n : ℕ) → n ≤ arm_limit → length (decimal n) ≤ arm_digi
 digits_short n h = length-decimal-le arm_digits n some_digits (omega (arith, h, all_digits)) (omega (arith, h))
 
 side_short : (s : Option ℕ) → side_of s ≤ 1 → length (side_text s) ≤ 1
-side_short (Some v) h = omega (arith, length-decimal-le 1 v)
-side_short None h = omega arith
+side_short s h = grind (arith, length-decimal-le 1)
 
 largest_bounded : (row : List ℕ) (n : ℕ) → ((b : ℕ) → slice_index row b ≤ tally_limit) → largest_count row n ≤ tally_limit
 largest_bounded row zero h = omega arith
@@ -78,34 +77,25 @@ module _ {At : Type 0} (door : Table At) where
       let count_digits = length-decimal-le 3 (largest_count a.row s.n) in
       simp length-append (omega arith)
 
-  first_short : (s : State At) (orders refused : ℕ) → Bounded door s → AreBits door s → orders < 2 ^ 64 → refused < 2 ^ 64 → length (first_line s orders refused) ≤ longest_first
-  first_short s orders refused h bits o r =
-      let bit = bits.bit in
-      let number_digits = digits_short s.n h.few in
-      let order_digits = length-decimal-le 20 orders in
-      let refused_digits = length-decimal-le 20 refused in
-      let bit_digits = length-decimal-le 1 (bit_of s) in
-      simp length-append (omega arith)
-
   bounded_fits : (s : State At) (orders refused k : ℕ) → Bounded door s → AreBits door s → orders < 2 ^ 64 → refused < 2 ^ 64 → k ≤ s.n
       → length (first_line s orders refused ++ lines (arm_line door s) k) ≤ report_room
   bounded_fits s orders refused k h bits o r l =
       let few = h.few in
-      let first = first_short s orders refused h bits o r in
+      let bit = bits.bit in
+      let number_digits = digits_short s.n few in
+      let order_digits = length-decimal-le 20 orders in
+      let refused_digits = length-decimal-le 20 refused in
+      let bit_digits = length-decimal-le 1 (bit_of s) in
+      let first : length (first_line s orders refused) ≤ longest_first = simp length-append (omega arith) in
       let rest = lines_short (arm_line door s) longest_line k (λ j m. line_short s j h bits (omega arith)) in
       let all : longest_line * k ≤ longest_line * arm_limit = mul-le longest_line k longest_line arm_limit (omega arith) (omega arith) in
       omega (arith, length-append (first_line s orders refused) (lines (arm_line door s) k), longest_fits)
 
-  -- of a gate in hand
-  page_fits : ShowsBits door → (s : State At) (orders refused k : ℕ) → IsReached door s → orders < 2 ^ 64 → refused < 2 ^ 64 → k ≤ s.n
-      → length (first_line s orders refused ++ lines (arm_line door s) k) ≤ report_room
-  page_fits bits s orders refused k reached o r l =
-      at_most door (length (first_line s orders refused ++ lines (arm_line door s) k)) report_room
-      (λ origin. bounded_fits s orders refused k (bounded_at door s origin) (at_origin door (AreBits door) bits s origin) o r l) reached
-
-  -- so there is room for one line more
+  -- of a gate in hand: there is room for one line more
   pub line_fits : ShowsBits door → (s : State At) (orders refused k : ℕ) (page line text : List ℕ) → IsReached door s → orders < 2 ^ 64 → refused < 2 ^ 64 → k < s.n
       → page ≡ first_line s orders refused ++ lines (arm_line door s) k → text ≡ line → line ≡ arm_line door s k → length page + length text ≤ report_room
   line_fits bits s orders refused k page line text reached o r l before is one =
-      let fits = page_fits bits s orders refused (suc k) reached o r (omega arith) in
-      rw before (rw is (rw one (omega (arith, fits, length-append (first_line s orders refused) (lines (arm_line door s) (suc k)), length-append (first_line s orders refused) (lines (arm_line door s) k), length-append (lines (arm_line door s) k) (arm_line door s k)))))
+      let all = length (first_line s orders refused ++ lines (arm_line door s) (suc k)) in
+      let fits : all ≤ report_room =
+      at_most door all report_room (λ origin. bounded_fits s orders refused (suc k) (bounded_at door s origin) (at_origin door (AreBits door) bits s origin) o r (omega arith)) reached in
+      grind (arith, length-append {A = ℕ})

@@ -2,7 +2,6 @@
 use Rattle.std.proofs.Common.{◌≡◌, ℕ, ◌≤◌, List, ◌++◌, length, Ok, Err, Result, sym, refl, ap, ◌∙◌}
 use Rattle.bank.specs.Lent.{Lent}
 use Rattle.gate_model.specs.Accesses.{ShowsAccesses}
-use Rattle.gate_model.specs.Making.{arms_for}
 use Rattle.gate_model.specs.States.{State}
 use Rattle.gate_model.specs.Table.{Table}
 use Rattle.gate_model.proofs.Twins.{Twins, made_twins, bit_same}
@@ -24,25 +23,20 @@ module _ {At : Type 0} (door : Table At) (shown : ShowsAccesses door) where
       let first : first_line t orders refused ≡ first_line s orders refused = cc in
       λ i. first i ++ lines (arm_line door (record s { n = n i; arms = arms i })) (n i)
 
-  play_text_same : ((n : ℕ) → 1 ≤ door.room n) → (lent : Lent) (high : ℕ) (regs : List ℕ) (lent' : Lent) (high' : ℕ) (regs' : List ℕ) (c : Contents)
-      → arms_for door high' (length regs') c.arms ≡ arms_for door high (length regs) c.arms
-      → play_text door lent' high' regs' c ≡ play_text door lent high regs c
-  play_text_same some_room lent high regs lent' high' regs' c e =
-      let made_so = made_twins door (over lent high regs c) (over lent' high' regs' c) refl e in
-      let s = start door lent high regs c in
-      let t = start door lent' high' regs' c in
-      ap (report_text door (end door lent' high' regs' c) (length c.orders)) (count_same door shown s t c.orders made_so)
-      ∙ text_same some_room (end door lent high regs c) (end door lent' high' regs' c) (length c.orders) (refusals door s c.orders) (all_twins door shown s t c.orders made_so)
-
   same_play : ((n : ℕ) → 1 ≤ door.room n) → (lent : Lent) (high : ℕ) (regs : List ℕ) (lent' : Lent) (high' : ℕ) (regs' : List ℕ) (said : Result Contents PlayFault) (memory : List ℕ)
       → GivesAsMany door high regs high' regs' said
       → IsSamePlay door lent high regs lent' high' regs' said memory (play_answer door lent high regs said) (play_memory door lent high regs memory said)
   same_play some_room lent high regs lent' high' regs' (Ok c) memory e =
-      let text = play_text_same some_room lent high regs lent' high' regs' c e in
+      let s = start door lent high regs c in
+      let t = start door lent' high' regs' c in
+      let twins = made_twins door (over lent high regs c) (over lent' high' regs' c) refl e in
+      let count = count_same door shown s t c.orders twins in
+      let report = text_same some_room (end door lent high regs c) (end door lent' high' regs' c) (length c.orders) (refusals door s c.orders) (all_twins door shown s t c.orders twins) in
+      let text : play_text door lent' high' regs' c ≡ play_text door lent high regs c = ap (report_text door (end door lent' high' regs' c) (length c.orders)) count ∙ report in
       record {
         answer = ap (λ bytes. Ok (length bytes)) (sym text);
-        report = ap (λ bytes. overwritten memory bytes) (sym text);
-        refusals = each_same door shown (start door lent high regs c) (start door lent' high' regs' c) c.orders (made_twins door (over lent high regs c) (over lent' high' regs' c) refl e);
+        report = ap (overwritten memory) (sym text);
+        refusals = each_same door shown s t c.orders twins;
       }
   same_play some_room lent high regs lent' high' regs' (Err fault) memory e = record { answer = refl; report = refl; refusals = refl }
 

@@ -1,12 +1,11 @@
 -- Reader and writer are inverse, and so is each call of them.
-use Rattle.std.proofs.Common.{◌≡◌, ℕ, ◌<◌, ◌≤◌, ◌↔◌, Bool, true, leb, List, ◌++◌, length, get_or, take, drop, is_ok, IsTrue, Ok, Err, Decides, Result, sym, refl, ap, ◌∙◌, subst, arith}
+use Rattle.std.proofs.Common.{◌≡◌, ℕ, ◌<◌, ◌≤◌, ◌↔◌, Bool, true, leb, List, ◌++◌, length, get_or, take, drop, is_ok, IsTrue, Ok, Decides, sym, refl, ap, ◌∙◌, subst, arith}
 use Rattle.std.proofs.lemmas.List.Elements.{All-from_get_or}
 use Rattle.std.proofs.lemmas.List.{take_at}
 use Rattle.std.proofs.lemmas.Bool.{le-leb, leb-true}
 use Rattle.std.proofs.lemmas.Bool.Decides.{nat_tests, Decides-by_and}
 use Rattle.schedule.specs.declared.order_number.Order.{Order}
-use Rattle.schedule.specs.declared.writer.WriteRefusal.{WriteRefusal}
-use Rattle.schedule.specs.Laws.{bytes_of, IsLawful, WritesLawful, OneFile, Inverse, WasRead, WasWritten}
+use Rattle.schedule.specs.Laws.{bytes_of, IsLawful, WritesLawful, Inverse, WasRead, WasWritten}
 use Rattle.schedule.specs.FileLimits.{largest_number, largest_arm}
 use Rattle.schedule.specs.Memory.{put_into}
 use Rattle.schedule.specs.Orders.{order_number, arm_of_order}
@@ -16,21 +15,15 @@ use Rattle.schedule.proofs.Groups.{Near, number_near, near_number}
 use Rattle.schedule.proofs.FromList.{reads_back}
 use Rattle.schedule.proofs.FromFile.{reads_lawful}
 
-pub one_file : OneFile
-one_file c l file b e = (reads_lawful file b c e).1
-
 -- the writer
-small_is_near : (os : List Order) → Decides (are_small os) (Near os)
-small_is_near os = Decides-by_and (λ o. leb (order_number o) largest_number) (λ o. arm_of_order o ≤ largest_arm) are_small each refl (λ _ _. refl) os
+pub writes_lawful : WritesLawful
+writes_lawful c = (forth, back)
   where
     each : (o : Order) → Decides (leb (order_number o) largest_number) (arm_of_order o ≤ largest_arm)
     each o = (λ t. near_number o (leb-true (order_number o) largest_number t), λ h. le-leb (order_number o) largest_number (number_near o h))
 
-pub writes_lawful : WritesLawful
-writes_lawful c = (forth, back)
-  where
     d : Decides (are_small c.orders) (Near c.orders)
-    d = small_is_near c.orders
+    d = Decides-by_and (λ o. leb (order_number o) largest_number) (λ o. arm_of_order o ≤ largest_arm) are_small each refl (λ _ _. refl) c.orders
 
     forth : IsLawful c → file_of c.arms c.orders ≡ Ok (bytes_of c)
     forth l = let t = d.1 l.near_arms in grind (arith, nat_tests)
@@ -41,7 +34,7 @@ writes_lawful c = (forth, back)
         (record { some_arms = grind (arith, nat_tests); few_arms = grind (arith, nat_tests); near_arms = d.0 t; short = grind (arith, nat_tests) }, grind (arith, nat_tests))
 
 pub inverse : Inverse
-inverse = record { writes_lawful = writes_lawful; reads_back = reads_back; reads_lawful = reads_lawful; one_file = one_file }
+inverse = record { writes_lawful = writes_lawful; reads_back = reads_back; reads_lawful = reads_lawful; one_file = λ c l file b e. (reads_lawful file b c e).1 }
 
 -- one call of the reader
 pub was_read : (file : List ℕ) (memory out : List Order) (c : Contents) → ((i : ℕ) → get_or file i 0 < 256) → says file ≡ Ok c
@@ -66,8 +59,6 @@ was_written arms os memory out size end w e m =
 
 -- a list is lawful if it has a file
 pub lawful_file : (arms : ℕ) (os : List Order) (r : Bool) → r ≡ is_ok (file_of arms os) → IsTrue r ↔ IsLawful (contents arms os)
-lawful_file arms os r e = (λ h. there h (file_of arms os) refl, λ l. e ∙ ap is_ok ((writes_lawful (contents arms os)).0 l))
-  where
-    there : r ≡ true → (x : Result (List ℕ) WriteRefusal) → file_of arms os ≡ x → IsLawful (contents arms os)
-    there h (Ok file) f = ((writes_lawful (contents arms os)).1 file f).0
-    there h (Err refusal) f = absurd (grind arith)
+lawful_file arms os r e =
+    let both = writes_lawful (contents arms os) in
+    (λ h. (both.1 (file_bytes arms os) (grind (arith, nat_tests))).0, λ l. e ∙ ap is_ok (both.0 l))

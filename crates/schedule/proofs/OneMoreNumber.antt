@@ -1,5 +1,5 @@
 -- What one more number makes of the memory.
-use Rattle.std.proofs.Common.{◌≡◌, ℕ, ◌+◌, ◌<◌, ◌≤◌, List, ◌++◌, length, get_or, take, drop, sym, arith, length-append}
+use Rattle.std.proofs.Common.{◌≡◌, ℕ, ◌+◌, ◌<◌, ◌≤◌, List, ◌++◌, length, get_or, take, drop, arith, length-append}
 use Rattle.std.proofs.lemmas.List.{take_at, drop-drop, drop_at}
 use Rattle.std.proofs.lemmas.List.Folds.{length-flat_map-take}
 use Rattle.schedule.specs.declared.order_number.Order.{Order}
@@ -15,17 +15,9 @@ no_order = Begin 0
 -- the bytes of one more order fit
 pub next_within : (arms i : ℕ) (os : List Order) → i < length os
     → length (file_bytes arms (take i os)) + length (groups (order_number (get_or os i no_order))) ≤ length (file_bytes arms os)
-next_within arms i os h =
-    let w = length-flat_map-take (λ o. groups (order_number o)) os i no_order h in
-    omega (arith, w, length-append {A = ℕ})
+next_within arms i os h = omega (arith, length-flat_map-take (λ o. groups (order_number o)) os i no_order h, length-append {A = ℕ})
 
 -- one more list of bytes after those before it
 pub one_more_number : (before bytes memory out : List ℕ) (at : ℕ) → at ≡ length before → out ≡ before ++ drop at memory
     → take at out ++ bytes ++ drop (at + length bytes) out ≡ before ++ bytes ++ drop (at + length bytes) memory
-one_more_number before bytes memory out at l e =
-    let n = length bytes in
-    let front = take_at before (drop at memory) at (sym l) in
-    let back = drop_at before (drop at memory) at (sym l) in
-    let past = drop-drop n at out in
-    let left = drop-drop n at memory in
-    cc
+one_more_number before bytes memory out at l e = grind (arith, take_at {A = ℕ}, drop_at {A = ℕ}, drop-drop {A = ℕ})

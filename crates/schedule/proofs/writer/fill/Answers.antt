@@ -4,8 +4,7 @@ use Rattle.schedule.proofs.OneMoreNumber.{next_within, one_more_number}
 use Rattle.schedule.proofs.writer.fill.Goals as goal
 
 pub put_order-at-requires-clause-room : goal.put_order-at-requires-clause-room
-put_order-at-requires-clause-room c =
-    omega (arith, next_within c.args.arms c.loop-i.i c.args.orders.now c.loop-i-test.true)
+put_order-at-requires-clause-room c = grind (arith, next_within)
 
 pub loop-i-preserved : goal.loop-i-preserved
 loop-i-preserved c = grind (arith, common_steps, one_more_number)

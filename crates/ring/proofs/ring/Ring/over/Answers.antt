@@ -1,6 +1,7 @@
 use Rattle.std.proofs.Common.{refl}
-use Rattle.ring.proofs.Laid.{none-laid}
+use Rattle.ring.specs.Spans.{laid}
 use Rattle.ring.proofs.ring.Ring.over.Goals as goal
 
 pub returns-clause-items : goal.returns-clause-items
-returns-clause-items g c = none-laid _ 0 c.args.memory.now refl
+unfolding laid
+returns-clause-items g c = refl
