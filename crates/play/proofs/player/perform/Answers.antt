@@ -6,7 +6,7 @@ use Rattle.schedule.specs.Reading.{Contents}
 use Rattle.obeying.specs.Obeying.{obeyed_all, refusals}
 use Rattle.obeying.proofs.SameMemory.{obeyed_all_name}
 use Rattle.play.specs.Limits.{report_room}
-use Rattle.play.specs.Playing.{playable, start, end, play_text, play_answer, play_regs, play_lent, play_memory}
+use Rattle.play.specs.Playing.{playable, over, start, end, play_text, play_answer, play_regs, play_lent, play_memory}
 use Rattle.play.specs.Reports.{report_text}
 use Rattle.play.specs.Text.{overwritten}
 use Rattle.play.proofs.player.perform.Goals as goal
@@ -37,7 +37,7 @@ returns g c =
     λ i. report_text door (last i) (orders i) (refused i) in
     record {
       answer = ap Ok (c.put_report-length.ensures.answer ∙ ap length text) ∙ sym (ap (play_answer door lent high regs) playable);
-      same_bank = ap (λ m. m.name) (c.into_bank.ensures.lent ∙ ap (λ s. s.memory) last) ∙ (obeyed_all_name door (start door lent high regs said) said.orders ∙ memory_name door lent high 0 said.arms regs []);
+      same_bank = ap (λ m. m.name) (c.into_bank.ensures.lent ∙ ap (λ s. s.memory) last) ∙ (obeyed_all_name door (start door lent high regs said) said.orders ∙ memory_name door (over lent high regs said) []);
       written = c.into_bank.ensures.lent ∙ (ap (λ s. s.memory) last ∙ sym (ap (play_lent door lent high regs) playable));
       registers = c.into_bank.ensures.values ∙ (ap (λ s. s.regs) last ∙ sym (ap (play_regs door lent high regs) playable));
       report = c.put_report-length.ensures.after ∙ (ap (overwritten memory) text ∙ sym (ap (play_memory door lent high regs memory) playable));
