@@ -1,4 +1,2 @@
-mod ListsOfCalls
-mod Filled
 mod Noted
 mod TurnByPhase

@@ -1,8 +1,7 @@
-use Rattle.std.proofs.Common.{◌+◌, ap, ◌∙◌}
+use Rattle.std.proofs.Common.{◌+◌, [], ◌∷◌, ap, ◌∙◌}
 use Rattle.gate_model.specs.declared.call.Call.TheVariants.{Admit, Leave}
-use Rattle.gate_model.specs.Calls.{knows}
+use Rattle.gate_model.specs.Calls.{after, knows}
 use Rattle.plantday.specs.Records.{with_move}
-use Rattle.plantday.proofs.ListsOfCalls.{once, joined}
 use Rattle.plantday.proofs.Noted.{known_is}
 use Rattle.plantday.proofs.deliver.Goals as goal
 use Rattle.plantday.proofs.deliver.Goals.{then-known, else-known}
@@ -10,8 +9,8 @@ use Rattle.plantday.proofs.deliver.Goals.{then-known, else-known}
 -- admitted and left
 pub returns-clause-calls : goal.returns-clause-calls
 returns-clause-calls g c =
-    let door = g.D.Door.table in
-    joined door (once door (Admit (c.args.k + 1)) c.admit.ensures.after) (once door (Leave c.confirm-known.result.0.gate c.confirm-known.result.0.arm) c.leave.ensures.after)
+    let leave = Leave c.confirm-known.result.0.gate c.confirm-known.result.0.arm in
+    (Admit (c.args.k + 1) ∷ leave ∷ [], c.leave.ensures.after ∙ ap (λ s. after g.D.Door.table s leave) c.admit.ensures.after)
 
 -- and delivered: the pass just given is known
 pub returns-clause-noted : goal.returns-clause-noted
