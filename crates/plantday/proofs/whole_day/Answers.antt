@@ -12,7 +12,6 @@ use Rattle.overtaking.proofs.Fairness.{fair}
 use Rattle.overtaking.proofs.Turns.{turns_told}
 use Rattle.plantday.specs.Day.{of_plant, Called}
 use Rattle.plantday.specs.Turns.{day_turns, turns_of, Plant, plant, day_of}
-use Rattle.plantday.proofs.Noted.{look_turns}
 use Rattle.plantday.proofs.TurnByPhase.{turns_on}
 use Rattle.plantday.proofs.whole_day.Given.{Over}
 use Rattle.plantday.proofs.whole_day.Goals as goal
@@ -73,7 +72,10 @@ returns-clause-fair g c =
     )
 
 pub returns-clause-turns : goal.returns-clause-turns
-returns-clause-turns g c = look_turns g.D.Door.table c.loop-t.gate 1 c.unwrap.result (sym c.look.ensures.answer ∙ c.unwrap.ensures)
+returns-clause-turns g c =
+    let seen = c.look.ensures.answer in
+    let view = c.unwrap.ensures in
+    grind arith
 
 pub returns-clause-day : goal.returns-clause-day
 returns-clause-day g c = ap (λ p. p.gate) (after_day g c)
