@@ -9,3 +9,5 @@ mod InsideAfterMove
 mod Served
 -- the calls of a move, put together
 mod MoveByCalls
+-- a move more
+pub mod OneMoveMore

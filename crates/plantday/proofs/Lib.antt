@@ -1,4 +1,1 @@
-mod ListsOfCalls
-mod Filled
-mod Noted
 mod TurnByPhase

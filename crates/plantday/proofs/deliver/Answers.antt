@@ -1,22 +1,25 @@
-use Rattle.std.proofs.Common.{◌+◌, ap, ◌∙◌}
+use Rattle.std.proofs.Common.{◌+◌, [], ◌∷◌, ap, ◌∙◌, arith}
 use Rattle.gate_model.specs.declared.call.Call.TheVariants.{Admit, Leave}
-use Rattle.gate_model.specs.Calls.{knows}
+use Rattle.gate_model.specs.Calls.{after, knows}
 use Rattle.plantday.specs.Records.{with_move}
-use Rattle.plantday.proofs.ListsOfCalls.{once, joined}
-use Rattle.plantday.proofs.Noted.{known_is}
 use Rattle.plantday.proofs.deliver.Goals as goal
 use Rattle.plantday.proofs.deliver.Goals.{then-known, else-known}
 
 -- admitted and left
 pub returns-clause-calls : goal.returns-clause-calls
 returns-clause-calls g c =
-    let door = g.D.Door.table in
-    joined door (once door (Admit (c.args.k + 1)) c.admit.ensures.after) (once door (Leave c.confirm-known.result.0.gate c.confirm-known.result.0.arm) c.leave.ensures.after)
+    let leave = Leave c.confirm-known.result.0.gate c.confirm-known.result.0.arm in
+    (Admit (c.args.k + 1) ∷ leave ∷ [], c.leave.ensures.after ∙ ap (λ s. after g.D.Door.table s leave) c.admit.ensures.after)
 
 -- and delivered: the pass just given is known
 pub returns-clause-noted : goal.returns-clause-noted
 returns-clause-noted g c =
     elim c.if-known.branch [
       | then-known w ↦ c.moved.ensures ∙ ap (with_move g.D.Door.table c.leave.new.self c.args.k) (w.record-is ∙ w.deliver.ensures)
-      | else-known w ↦ absurd (known_is c.admit.result c.unwrap-pass.result c.confirm-known.result.0 c.confirm-known.result.1 (λ pass. knows g.D.Door.table c.admit.new.self pass.gate pass.arm) c.admit.ensures.known c.unwrap-pass.ensures c.confirm-known.ensures.same c.confirm-known.ensures.answer w.if-known.false)
+      | else-known w ↦ let given = c.admit.ensures.known in
+          let pass = c.unwrap-pass.ensures in
+          let same = c.confirm-known.ensures.same in
+          let known = c.confirm-known.ensures.answer in
+          let missed = w.if-known.false in
+          grind arith
     ]

@@ -1,45 +1,48 @@
-use Rattle.std.proofs.Common.{◌+◌, sym, ◌∙◌}
+use Rattle.std.proofs.Common.{◌≡◌, ℕ, ◌+◌, false, cond, eqb, [], ◌∷◌, sym, ap, ◌∙◌, arith}
+use Rattle.std.proofs.lemmas.Bool.Decides.{nat_tests}
 use Rattle.gate_model.specs.declared.call.Call.TheVariants.{Begin, Step}
-use Rattle.plantday.proofs.ListsOfCalls.{once}
-use Rattle.plantday.proofs.TurnByPhase.{look_arm, idle_begins, stays_idle, stays_out, leaves, stepping, arm_steps}
+use Rattle.plantday.specs.Records.{with_leave}
+use Rattle.plantday.specs.Turns.{plant, plant_visited, turned_in}
+use Rattle.plantday.proofs.TurnByPhase.{look_arm, arm_steps}
 use Rattle.plantday.proofs.turn.Goals as goal
 
+no_zero : (n : ℕ) → (n ≡ 0 → ⊥) → eqb n 0 ≡ false
+no_zero n h = grind (arith, nat_tests)
+
 pub returns-then-roll-eq0-clause-calls : goal.returns-then-roll-eq0-clause-calls
-returns-then-roll-eq0-clause-calls g c = once g.D.Door.table (Begin (c.args.k + 1)) c.begin.ensures.after
+returns-then-roll-eq0-clause-calls g c = (Begin (c.args.k + 1) ∷ [], c.begin.ensures.after)
 
 pub returns-then-roll-eq0-clause-turn : goal.returns-then-roll-eq0-clause-turn
 returns-then-roll-eq0-clause-turn g c =
-    let door = g.D.Door.table in
-    let saw = look_arm door c.args.gate.now (c.args.k + 1) c.unwrap-view.result (sym c.look.ensures.answer ∙ c.unwrap-view.ensures) in
-    idle_begins door c.args.k c.args.dice.now.state c.args.gate.now c.begin.new.self c.args.record.now c.roll.new.self.state c.roll.result (saw.0 ∙ c.in-I.is) c.roll.ensures.state c.roll.ensures.shown c.if-roll-eq0.true c.begin.ensures.after
+    let saw = look_arm g.D.Door.table c.args.gate.now (c.args.k + 1) c.unwrap-view.result (sym c.look.ensures.answer ∙ c.unwrap-view.ensures) in
+    rw (saw.0 ∙ c.in-I.is, c.begin.ensures.after, c.roll.ensures.state, ap (λ n. eqb n 0) (sym c.roll.ensures.shown ∙ c.if-roll-eq0.true))
 
 pub returns-else-roll-eq0-clause-turn : goal.returns-else-roll-eq0-clause-turn
 returns-else-roll-eq0-clause-turn g c =
-    let door = g.D.Door.table in
-    let s = c.args.gate.now in
-    let saw = look_arm door s (c.args.k + 1) c.unwrap-view.result (sym c.look.ensures.answer ∙ c.unwrap-view.ensures) in
-    stays_idle door c.args.k c.args.dice.now.state s s c.args.record.now c.roll.new.self.state c.roll.result (saw.0 ∙ c.in-I.is) c.roll.ensures.state c.roll.ensures.shown c.if-roll-eq0.false
+    let saw = look_arm g.D.Door.table c.args.gate.now (c.args.k + 1) c.unwrap-view.result (sym c.look.ensures.answer ∙ c.unwrap-view.ensures) in
+    rw (saw.0 ∙ c.in-I.is, c.roll.ensures.state, ap (λ n. eqb n 0) (sym c.roll.ensures.shown) ∙ no_zero c.roll.result c.if-roll-eq0.false)
 
 pub returns-in-F-clause-turn : goal.returns-in-F-clause-turn
 returns-in-F-clause-turn g c =
-    let door = g.D.Door.table in
-    let s = c.args.gate.now in
-    let saw = look_arm door s (c.args.k + 1) c.unwrap-view.result (sym c.look.ensures.answer ∙ c.unwrap-view.ensures) in
-    stays_out door c.args.k c.args.dice.now.state s s c.args.record.now (saw.0 ∙ c.in-F.is) (saw.1 ∙ c.if-view.true)
+    let saw = look_arm g.D.Door.table c.args.gate.now (c.args.k + 1) c.unwrap-view.result (sym c.look.ensures.answer ∙ c.unwrap-view.ensures) in
+    rw (saw.0 ∙ c.in-F.is, saw.1 ∙ c.if-view.true)
 
 pub returns-in-F-2-clause-turn : goal.returns-in-F-2-clause-turn
 returns-in-F-2-clause-turn g c =
     let door = g.D.Door.table in
-    let saw = look_arm door c.args.gate.now (c.args.k + 1) c.unwrap-view.result (sym c.look.ensures.answer ∙ c.unwrap-view.ensures) in
-    leaves door c.args.k c.args.dice.now.state c.args.gate.now c.deliver.new.gate c.args.record.now c.deliver.new.record (saw.0 ∙ c.in-F.is) (saw.1 ∙ c.if-view.false) c.deliver.ensures.gate c.deliver.ensures.noted
+    let k = c.args.k in
+    let before = plant c.args.gate.now c.args.dice.now.state c.args.record.now in
+    let saw = look_arm door c.args.gate.now (k + 1) c.unwrap-view.result (sym c.look.ensures.answer ∙ c.unwrap-view.ensures) in
+    ap (plant c.deliver.new.gate before.dice) c.deliver.ensures.noted
+    ∙ ap (λ s. plant s before.dice (with_leave door s k before.notes)) c.deliver.ensures.gate
+    ∙ sym (ap (λ phase. turned_in door phase k before) (saw.0 ∙ c.in-F.is) ∙ ap (λ out. cond out before (plant_visited door k before)) (saw.1 ∙ c.if-view.false))
 
 pub returns-in-D-clause-calls : goal.returns-in-D-clause-calls
-returns-in-D-clause-calls g c = once g.D.Door.table (Step (c.args.k + 1)) c.step.ensures.after
+returns-in-D-clause-calls g c = (Step (c.args.k + 1) ∷ [], c.step.ensures.after)
 
 pub returns-in-D-clause-turn : goal.returns-in-D-clause-turn
 returns-in-D-clause-turn g c =
     let door = g.D.Door.table in
     let saw = look_arm door c.args.gate.now (c.args.k + 1) c.unwrap-view.result (sym c.look.ensures.answer ∙ c.unwrap-view.ensures) in
-    let busy = stepping door c.args.k c.args.dice.now.state c.args.gate.now c.step.new.self c.args.record.now c.unwrap-view.result.phase c.in-D.is in
-    arm_steps door c.args.k c.args.dice.now.state c.args.gate.now c.step.new.self c.args.record.now c.unwrap-view.result.phase c.unwrap-after.result c.note.new.record c.moved.new.self busy
+    arm_steps door c.args.k c.args.dice.now.state c.args.gate.now c.step.new.self c.args.record.now c.unwrap-view.result.phase c.unwrap-after.result c.note.new.record c.moved.new.self c.in-D.is
     saw.0 (sym c.step.ensures.answer ∙ c.unwrap-after.ensures) c.step.ensures.after c.note.ensures c.moved.ensures
