@@ -59,14 +59,8 @@ module _ {At : Type 0} (door : Table At) where
 
   pub admit_gives : (s t : State At) (i : ℕ) (answer : Result Pass Refusal) → s.n ≤ length s.arms → answer ≡ admit_answer door s i → t ≡ after door s (Admit i)
       → passes_out door t ≡ with_given answer (passes_out door s)
-  admit_gives s t i answer full is e =
-      ap (passes_out door) e
-      ∙ given s i (refusal_of door s (Admit i)) full
-      (λ none. let k = known_arm s i (admit_refusal (phase_at door s i) (arm_at door s i).out) none in arm_is s i k.0 k.1)
-      ∙ ap (λ x. with_given x (passes_out door s)) (sym is)
-
-  strange : (s : State At) (p : Pass) → T (not (knows door s p.gate p.arm)) → (gate arm : ℕ) → knows door s gate arm ≡ (knows door s gate arm && not (eqb arm p.arm && eqb gate p.gate))
-  strange s p n gate arm = grind (arith, nat_tests)
+  admit_gives s t i answer full is e = rw (e, is) (given s i (refusal_of door s (Admit i)) full
+      (λ none. let k = known_arm s i (admit_refusal (phase_at door s i) (arm_at door s i).out) none in arm_is s i k.0 k.1))
 
   spent : (s : State At) (p : Pass) → s.n ≤ length s.arms → T (knows door s p.gate p.arm) → passes_out door (done door s (Leave p.gate p.arm)) ≡ without p (passes_out door s)
   unfolding passes_out
@@ -79,9 +73,7 @@ module _ {At : Type 0} (door : Table At) where
 
   kept : (s : State At) (p : Pass) → T (not (knows door s p.gate p.arm)) → passes_out door s ≡ without p (passes_out door s)
   unfolding passes_out
-  kept s p n = λ j gate arm. strange s p n gate arm j
+  kept s p n = λ j gate arm. (let strange : knows door s gate arm ≡ (knows door s gate arm && not (eqb arm p.arm && eqb gate p.gate)) = grind (arith, nat_tests) in strange) j
 
   pub leave_takes : (s t : State At) (p : Pass) → s.n ≤ length s.arms → t ≡ after door s (Leave p.gate p.arm) → passes_out door t ≡ without p (passes_out door s)
-  leave_takes s t p full e =
-      ap (passes_out door) e
-      ∙ by (λ r. passes_out door (unless r (done door s (Leave p.gate p.arm)) s) ≡ without p (passes_out door s)) (knows door s p.gate p.arm) None (Some R.StrangePass) (spent s p full) (kept s p)
+  leave_takes s t p full e = rw e (by (λ r. passes_out door (unless r (done door s (Leave p.gate p.arm)) s) ≡ without p (passes_out door s)) (knows door s p.gate p.arm) None (Some R.StrangePass) (spent s p full) (kept s p))
