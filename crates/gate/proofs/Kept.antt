@@ -33,8 +33,8 @@ module _ {At : Type 0} (door : Table At) where
   marks_same s t en ec em = λ i gate arm. eqb gate (en i) && ((leb 1 arm && leb arm (ec i)) && em arm i)
 
   pub begin_keeps : (s t : State At) (i : ℕ) → t ≡ after door s (Begin i) → passes_out door t ≡ passes_out door s
-  begin_keeps s t i e = ap (passes_out door) e ∙ unless_both (refusal_of door s (Begin i)) (done door s (Begin i)) s (λ x. passes_out door x ≡ passes_out door s)
-      (λ _. marks_same s (done door s (Begin i)) refl refl (λ j. same_mark s.arms (i - 1) (j - 1) _ refl)) refl
+  begin_keeps s t i e = rw e (unless_both (refusal_of door s (Begin i)) (done door s (Begin i)) s (λ x. passes_out door x ≡ passes_out door s)
+      (λ _. marks_same s (done door s (Begin i)) refl refl (λ j. same_mark s.arms (i - 1) (j - 1) _ refl)) refl)
 
   pub step_keeps : (s t : State At) (i : ℕ) → t ≡ after door s (Step i) → passes_out door t ≡ passes_out door s
   step_keeps s t i e = ap (passes_out door) e ∙ unless_both (refusal_of door s (Step i)) (stepped door i s) s (λ x. passes_out door x ≡ passes_out door s)

@@ -32,16 +32,7 @@ clear-requires g c =
 made_of : {At : Type 0} (door : Table At) (making : Making) (lent : Lent) (n : ℕ) (new : List ℕ) (arms : List (Arm At))
     → n ≡ arms_of door making → lent ≡ made_memory door n making.memory → new ≡ made_regs door n making.regs → arms ≡ replicate arm_limit (fresh door)
     → record { memory = lent; high = making.high; number = making.number; n = n; regs = new; arms = arms; turns = 0 } ≡ made door making
-made_of door making lent n new arms en el er ea =
-    λ i. record {
-      memory = (el ∙ ap (λ k. made_memory door k making.memory) en) i;
-      high = making.high;
-      number = making.number;
-      n = en i;
-      regs = (er ∙ ap (λ k. made_regs door k making.regs) en) i;
-      arms = ea i;
-      turns = 0;
-    }
+made_of door making lent n new arms en el er ea = rw (el, er, ea, en)
 
 some_made : {At : Type 0} (door : Table At) (n : ℕ) (memory : Lent) (regs : List ℕ) → 0 < n
     → (cleared door (door.room n) regs ≡ made_regs door n regs) × (cleared_memory door (door.room n) memory ≡ made_memory door n memory)
