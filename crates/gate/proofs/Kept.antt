@@ -37,11 +37,8 @@ module _ {At : Type 0} (door : Table At) where
       (λ _. marks_same s (done door s (Begin i)) refl refl (λ j. same_mark s.arms (i - 1) (j - 1) _ refl)) refl)
 
   pub step_keeps : (s t : State At) (i : ℕ) → t ≡ after door s (Step i) → passes_out door t ≡ passes_out door s
-  step_keeps s t i e = ap (passes_out door) e ∙ unless_both (refusal_of door s (Step i)) (stepped door i s) s (λ x. passes_out door x ≡ passes_out door s)
-      (λ _. marks_same s (stepped door i s) refl refl (λ j.
-      ((tallied_table door (i - 1) (phase_at door s i) (door.phase (arm_after door s i).position) (set s.arms (i - 1) (arm_after door s i))).0 (j - 1)).2
-      ∙ same_mark s.arms (i - 1) (j - 1) (arm_after door s i) refl))
-      refl
+  step_keeps s t i e = rw e (unless_both (refusal_of door s (Step i)) (stepped door i s) s (λ x. passes_out door x ≡ passes_out door s)
+      (λ _. marks_same s (stepped door i s) refl refl (λ j. ((tallied_table door (i - 1) _ _ _).0 (j - 1)).2 ∙ same_mark s.arms (i - 1) (j - 1) (arm_after door s i) refl)) refl)
 
   -- the mark of arm i put or cleared
   module _ (s : State At) (i : ℕ) (a : Arm At) (is : T (is_arm s i)) where

@@ -1,6 +1,4 @@
-use Rattle.std.proofs.Common.{◌<◌, ◌≤◌, length, ap, ◌∙◌, arith}
-use Rattle.bank.specs.Lent.{touched}
-use Rattle.bank.specs.Registers.{written}
+use Rattle.std.proofs.Common.{◌<◌, ◌≤◌, length, arith}
 use Rattle.gate_model.proofs.Rooms.{cleared_more, cleared_memory_more}
 use Rattle.gate.proofs.making.clear.Goals as goal
 
