@@ -1,29 +1,12 @@
-use Rattle.std.proofs.Common.{◌≡◌, ℕ, ◌<◌, ◌≤◌, List, length, sym, ap, ◌∙◌, subst, arith}
+use Rattle.std.proofs.Common.{◌≡◌, ℕ, ◌<◌, ◌≤◌, List, ap, ◌∙◌, arith}
 use Rattle.std.proofs.lemmas.Bool.Decides.{nat_tests}
 use Rattle.gate_model.proofs.Origins.{reached_made}
 use Rattle.bank.specs.Lent.{Lent}
-use Rattle.gate_model.specs.Limits.{arm_limit}
 use Rattle.gate_model.specs.Making.{cleared, made_regs, cleared_memory, made_memory}
 use Rattle.gate_model.specs.Table.{Table}
-use Rattle.gate_model.proofs.Rooms.{arms_few, arms_fit}
 use Rattle.gate.proofs.InHand.{in_hand}
 use Rattle.gate.proofs.gate.Gate.make.Goals as goal
 use Rattle.gate.proofs.gate.Gate.make.Goals.{then-n-gt0, else-n-gt0}
-
-pub registers-requires : goal.registers-requires
-registers-requires g c = subst (λ n. n ≤ arm_limit) (sym c.arm_count-n.ensures) (arms_few g.D.Door.table _ _ _)
-
-pub clear-requires : goal.clear-requires
-clear-requires g c =
-    let door = g.D.Door.table in
-    let high = g.B.Bank.HIGHEST in
-    let len = length (g.B.Bank.values c.args.bank) in
-    let some = subst (λ n. 0 < n) c.arm_count-n.ensures c.if-n-gt0.true in
-    let fit = arms_fit door high len c.args.wanted some in
-    record {
-      count = subst (λ k. k ≤ len) (sym c.registers.ensures.is) (subst (λ n. door.room n ≤ len) (sym c.arm_count-n.ensures) fit.0);
-      high = fit.1;
-    }
 
 some_made : {At : Type 0} (door : Table At) (n : ℕ) (memory : Lent) (regs : List ℕ) → 0 < n
     → (cleared door (door.room n) regs ≡ made_regs door n regs) × (cleared_memory door (door.room n) memory ≡ made_memory door n memory)
