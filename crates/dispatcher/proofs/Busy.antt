@@ -1,5 +1,5 @@
 -- An arm that is not idle moves at a call, or is not idle after it either.
-use Rattle.std.proofs.Common.{ℕ, ◌≤◌, Bool, not, ◌&&◌, T, ◌⊎◌, inl, inr, List, [], ◌∷◌, ◌++◌, sym, refl, subst, arith}
+use Rattle.std.proofs.Common.{ℕ, Bool, not, ◌&&◌, T, ◌⊎◌, inl, inr, List, [], ◌∷◌, ◌++◌, sym, refl, subst, arith}
 use Rattle.std.proofs.lemmas.Bool.Decides.{nat_tests}
 use Rattle.gate_model.specs.Calls.{after, run}
 use Rattle.gate_model.specs.History.{move_of, moves, Moves, is_in}

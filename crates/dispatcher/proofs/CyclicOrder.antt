@@ -1,5 +1,5 @@
 -- The first arm not idle in cyclic order: none that is not idle is passed over.
-use Rattle.std.proofs.Common.{◌≡◌, ℕ, zero, suc, ◌+◌, ◌-◌, ◌<◌, ◌≤◌, Bool, cond, ltb, T, ◌⊎◌, inl, inr, List, [], ◌∷◌, ◌++◌, append-nil, Some, sym, refl, ap, ◌∙◌, arith}
+use Rattle.std.proofs.Common.{◌≡◌, ℕ, zero, suc, ◌+◌, ◌-◌, ◌<◌, ◌≤◌, Bool, cond, ltb, T, ◌⊎◌, inl, inr, List, [], ◌∷◌, ◌++◌, append-nil, Some, sym, refl, ap, ⊎_elim, ◌∙◌, arith}
 use Rattle.std.proofs.lemmas.Bool.{cases_lt}
 use Rattle.std.proofs.lemmas.Bool.Decides.{nat_tests}
 use Rattle.std.specs.List.{find, range_with_len}
@@ -15,28 +15,19 @@ pub found_yes : (p : ℕ → Bool) (xs : List ℕ) (c : ℕ) → find p xs ≡ S
 found_yes p [] c e = grind arith
 found_yes p (x ∷ xs) c e = let more = found_yes p xs c in grind arith
 
--- the first of a range and more, where one of the range passes
-pub found_in : (p : ℕ → Bool) (a k b : ℕ) (rest : List ℕ) → a ≤ b → b < a + k → T (p b)
-    → (c : ℕ) × (find p (range_with_len a k ++ rest) ≡ Some c) × (a ≤ c) × (c ≤ b)
-found_in p a zero b rest lo hi h = absurd (omega (arith, lo, hi))
-found_in p a (suc k) b rest lo hi h = elim (test (p a)) [
-  | inl y ↦ (a, grind arith, omega arith, lo)
-  | inr n ↦
-      (let ne : a ≡ b → ⊥ = λ e. grind arith in
-      let more = found_in p (a + 1) k b rest (omega (arith, ne)) (omega arith) h in
-      (more.0, grind arith, omega (arith, more.2), more.3))
-]
-
--- or one of the range is first, or none of it passes
+-- the first of a range that passes, before any rest; or none of the range passes
 pub first_part : (p : ℕ → Bool) (a k : ℕ) (rest : List ℕ)
-    → ((c : ℕ) × (find p (range_with_len a k ++ rest) ≡ Some c) × (a ≤ c) × (c < a + k)) ⊎ (find p (range_with_len a k ++ rest) ≡ find p rest)
-first_part p a zero rest = inr refl
+    → ((c : ℕ) × (find p (range_with_len a k ++ rest) ≡ Some c) × (a ≤ c) × (c < a + k) × ((b : ℕ) → a ≤ b → T (p b) → c ≤ b))
+    ⊎ ((find p (range_with_len a k ++ rest) ≡ find p rest) × ((b : ℕ) → a ≤ b → T (p b) → a + k ≤ b))
+first_part p a zero rest = inr (refl, λ b lo h. omega (arith, lo))
 first_part p a (suc k) rest = elim (test (p a)) [
-  | inl y ↦ inl (a, grind arith, omega arith, omega arith)
-  | inr n ↦ elim (first_part p (a + 1) k rest) [
-    | inl f ↦ inl (f.0, grind arith, omega (arith, f.2), omega (arith, f.3))
-    | inr e ↦ inr (grind arith)
-  ]
+  | inl y ↦ inl (a, grind arith, omega arith, omega arith, λ b lo h. lo)
+  | inr n ↦
+      (let past : (b : ℕ) → a ≤ b → T (p b) → a + 1 ≤ b = λ b lo h. (let ne : a ≡ b → ⊥ = λ e. grind arith in omega (arith, lo, ne)) in
+      elim (first_part p (a + 1) k rest) [
+        | inl f ↦ inl (f.0, grind arith, omega (arith, f.2), omega (arith, f.3), λ b lo h. f.4 b (past b lo h) h)
+        | inr e ↦ inr (grind (arith, e.0), λ b lo h. let more = e.1 b (past b lo h) h in omega (arith, more))
+      ])
 ]
 
 -- a place between is nearer, before the end and past it
@@ -52,15 +43,11 @@ nearer_round n last b c within low lo hi = grind (arith, nat_tests)
 -- an arm that passes is found, or another that comes before it
 pub in_line_found : (p : ℕ → Bool) (n last b : ℕ) → last ≤ n → 1 ≤ b → b ≤ n → T (p b)
     → (c : ℕ) × (find p (in_turn n last) ≡ Some c) × ((c ≡ b) ⊎ (places_ahead n c b < places_ahead n last b))
-in_line_found p n last b within lo hi h = elim (cases_lt last b) [
-  | inl low ↦
-      (let f = found_in p (last + 1) (n - last) b (range_with_len 1 last) (omega arith) (omega arith) h in
-      (f.0, f.1, nearer_low n last b f.0 (omega (arith, f.2)) f.3))
-  | inr high ↦ elim (first_part p (last + 1) (n - last) (range_with_len 1 last)) [
-    | inl f ↦ (f.0, f.1, inr (nearer_high n last b f.0 high (omega (arith, f.2)) (omega (arith, f.3)) lo))
-    | inr e ↦
-        (let f = found_in p 1 last b [] lo (omega arith) h in
-        (f.0, e ∙ ap (find p) (sym (append-nil _)) ∙ f.1, nearer_round n last b f.0 within high f.2 f.3))
+in_line_found p n last b within lo hi h = elim (first_part p (last + 1) (n - last) (range_with_len 1 last)) [
+  | inl f ↦ (f.0, f.1, ⊎_elim (λ low. nearer_low n last b f.0 (omega (arith, f.2)) (f.4 b (omega (arith, low)) h)) (λ high. inr (nearer_high n last b f.0 high (omega (arith, f.2)) (omega (arith, f.3)) lo)) (cases_lt last b))
+  | inr e ↦ elim (first_part p 1 last []) [
+    | inl f ↦ (f.0, e.0 ∙ ap (find p) (sym (append-nil _)) ∙ f.1, nearer_round n last b f.0 within (⊎_elim (λ low. absurd (omega (arith, within, e.1 b (omega (arith, low)) h))) (λ high. high) (cases_lt last b)) f.2 (f.4 b lo h))
+    | inr none ↦ absurd (omega (arith, within, e.1 b (omega (arith, none.1 b lo h)) h))
   ]
 ]
 

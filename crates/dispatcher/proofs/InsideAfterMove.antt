@@ -1,7 +1,7 @@
 -- The step by which an arm goes inside is the last call of its move, so the arm is inside after that move.
 use Rattle.std.proofs.Common.{ℕ, T, ◌⊎◌, inl, inr, List, [], ◌∷◌, ◌++◌, Some, None, Option, refl, ap, subst, sym, arith}
 use Rattle.gate_model.specs.Calls.{after, run}
-use Rattle.gate_model.specs.History.{is_in, goes_inside, GoesInside}
+use Rattle.gate_model.specs.History.{step_of, is_in, goes_inside, GoesInside}
 use Rattle.gate_model.specs.States.{State}
 use Rattle.gate_model.specs.Table.{Table}
 use Rattle.gate_model.specs.declared.call.Call.{Call}
@@ -15,17 +15,8 @@ use Rattle.dispatcher.specs.Law.{calls_of_moves, SeenInside}
 
 module _ {At : Type 0} (door : Table At) (w : ℕ) where
   -- only a step takes an arm inside
-  step_enters : (s : State At) (i : ℕ) → T (goes_inside door w s (Step i)) → T (is_in door P.F (after door s (Step i)) w)
-  step_enters s i h = grind arith
-
-  not_begin : (s : State At) (i : ℕ) → T (goes_inside door w s (Begin i)) → ⊥
-  not_begin s i h = grind arith
-
-  not_admit : (s : State At) (i : ℕ) → T (goes_inside door w s (Admit i)) → ⊥
-  not_admit s i h = grind arith
-
-  not_leave : (s : State At) (g i : ℕ) → T (goes_inside door w s (Leave g i)) → ⊥
-  not_leave s g i h = grind arith
+  only_step : (s : State At) (c : Call) → T (goes_inside door w s c) → T (step_of w c) × T (is_in door P.F (after door s c) w)
+  only_step s c h = grind arith
 
   inside_append : (xs ys : List Call) (s : State At) → GoesInside door w s (xs ++ ys) → GoesInside door w s xs ⊎ GoesInside door w (run door s xs) ys
   inside_append [] ys s h = inr h
@@ -36,16 +27,16 @@ module _ {At : Type 0} (door : Table At) (w : ℕ) where
 
   opening_enters_not : (s : State At) (asked : List ℕ) → GoesInside door w s (opening asked) → ⊥
   opening_enters_not s [] h = elim h [ ]
-  opening_enters_not s (i ∷ more) h = elim h [ inl now ↦ not_begin s i now | inr later ↦ elim later [ ] ]
+  opening_enters_not s (i ∷ more) h = elim h [ inl now ↦ (only_step s (Begin i) now).0 | inr later ↦ elim later [ ] ]
 
   serving_enters : (s : State At) (served : Option ℕ) → GoesInside door w s (serving_any door s served) → T (is_in door P.F (run door s (serving_any door s served)) w)
   serving_enters s None h = elim h [ ]
   serving_enters s (Some i) h = by (λ cs. GoesInside door w s cs → T (is_in door P.F (run door s cs) w)) (is_inside door s i) _ _
       (λ y h. elim h [
-        | inl now ↦ absurd (not_admit s i now)
-        | inr later ↦ elim later [ inl now ↦ absurd (not_leave (after door s (Admit i)) s.number i now) | inr more ↦ elim more [ ] ]
+        | inl now ↦ absurd (only_step s (Admit i) now).0
+        | inr later ↦ elim later [ inl now ↦ absurd (only_step (after door s (Admit i)) (Leave s.number i) now).0 | inr more ↦ elim more [ ] ]
       ])
-      (λ n h. elim h [ inl now ↦ step_enters s i now | inr more ↦ elim more [ ] ])
+      (λ n h. elim h [ inl now ↦ (only_step s (Step i) now).1 | inr more ↦ elim more [ ] ])
       h
 
   -- an arm that goes inside in a move is inside after it

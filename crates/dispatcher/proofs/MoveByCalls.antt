@@ -1,5 +1,5 @@
 -- The calls of a move, put together.
-use Rattle.std.proofs.Common.{◌≡◌, ℕ, true, cond, List, [], ◌∷◌, ◌++◌, append-nil, Some, None, sym, ap, ◌∙◌, subst, arith}
+use Rattle.std.proofs.Common.{◌≡◌, ℕ, true, cond, List, [], ◌∷◌, ◌++◌, None, Option, sym, ap, ◌∙◌, subst, arith}
 use Rattle.gate_model.specs.Calls.{refusal_of, unless, left_at_once, run}
 use Rattle.gate_model.specs.States.{State}
 use Rattle.gate_model.specs.Table.{Table}
@@ -16,20 +16,11 @@ module _ {At : Type 0} (door : Table At) where
       t_is ∙ ap (λ r. unless r (run door s (Admit i ∷ Leave s.number i ∷ [])) s) may
       ∙ ap (λ b. run door s (cond b (Admit i ∷ Leave s.number i ∷ []) (Step i ∷ []))) (sym inside)
 
-  -- a move in which all arms are idle, and one that serves an arm
-  pub idle_move : (d : Dispatch At) (asked : List ℕ) (s : State At) → s ≡ run door d.gate (opening asked) → first_busy door s d.last ≡ None
-      → ◌≡◌ {A = Dispatch At} (record { gate = s; last = d.last }) (moved door d asked)
-  idle_move d asked s s_is none =
+  -- a move in which all arms are idle, or one that serves an arm
+  pub move_by : (d : Dispatch At) (asked : List ℕ) (s t : State At) (o : Option ℕ) → s ≡ run door d.gate (opening asked) → first_busy door s d.last ≡ o → t ≡ run door s (serving_any door s o)
+      → ◌≡◌ {A = Dispatch At} (record { gate = t; last = last_after d.last o }) (moved door d asked)
+  move_by d asked s t o s_is o_is t_is =
       let now = opened door d asked in
-      let e : in_line door d asked ≡ None = subst (λ t. first_busy door t d.last ≡ None) s_is none in
-      ap (λ t. record { gate = t; last = d.last }) s_is
-      ∙ sym (ap (λ o. record { gate = run door d.gate (opening asked ++ serving_any door now o); last = last_after d.last o }) e
-      ∙ ap (λ cs. record { gate = run door d.gate cs; last = d.last }) (append-nil (opening asked)))
-
-  pub served_move : (d : Dispatch At) (asked : List ℕ) (s t : State At) (i : ℕ) → s ≡ run door d.gate (opening asked) → first_busy door s d.last ≡ Some i → t ≡ run door s (serving door s i)
-      → ◌≡◌ {A = Dispatch At} (record { gate = t; last = i }) (moved door d asked)
-  served_move d asked s t i s_is some t_is =
-      let now = opened door d asked in
-      let e : in_line door d asked ≡ Some i = subst (λ v. first_busy door v d.last ≡ Some i) s_is some in
-      ap (λ v. record { gate = v; last = i }) (t_is ∙ ap (λ v. run door v (serving door v i)) s_is ∙ sym (run_append door (opening asked) (serving door now i) d.gate))
+      let e : in_line door d asked ≡ o = subst (λ v. first_busy door v d.last ≡ o) s_is o_is in
+      ap (λ v. record { gate = v; last = last_after d.last o }) (t_is ∙ ap (λ v. run door v (serving_any door v o)) s_is ∙ sym (run_append door (opening asked) (serving_any door now o) d.gate))
       ∙ sym (ap (λ o. record { gate = run door d.gate (opening asked ++ serving_any door now o); last = last_after d.last o }) e)

@@ -1,5 +1,5 @@
 -- Between two moves no pass is out.
-use Rattle.std.proofs.Common.{◌≡◌, ℕ, zero, suc, ◌-◌, true, false, T, List, [], ◌∷◌, get_or, set, replicate, Some, None, Option, subst, sym, refl, ◌∙◌, arith}
+use Rattle.std.proofs.Common.{◌≡◌, ℕ, ◌-◌, true, false, T, List, [], ◌∷◌, get_or, set, Some, None, Option, subst, sym, refl, ◌∙◌, arith}
 use Rattle.std.proofs.lemmas.Bool.Decides.{nat_tests}
 use Rattle.std.proofs.lemmas.List.{get_or-set_same, get_or-set_other, set_past, length-set}
 use Rattle.gate_model.specs.Making.{Making}
@@ -13,6 +13,7 @@ use Rattle.gate_model.specs.declared.call.Call.TheVariants.{Begin, Step, Admit, 
 use Rattle.gate_model.specs.declared.refusal.Refusal.TheVariants as R
 use Rattle.gate_model.proofs.Accepted.{unless_both}
 use Rattle.gate_model.proofs.Bools.{by}
+use Rattle.gate_model.proofs.Bounds.{kept_replicate}
 use Rattle.gate_model.proofs.SameButRow.{tallied_table}
 use Rattle.dispatcher.specs.Dispatchers.{NoPassOut}
 use Rattle.dispatcher.specs.Moves.{opening, is_inside, serving_any}
@@ -30,14 +31,6 @@ module _ {At : Type 0} (door : Table At) where
 
   still_unmarked : (arms : List (Arm At)) (j : ℕ) (a : Arm At) → (get_or (set arms j a) j (no_arm door)).out ≡ false → Unmarked arms → Unmarked (set arms j a)
   still_unmarked arms j a h u i = let x = u i in grind (arith, get_or-set_other)
-
-  fresh_unmarked : (n k : ℕ) → (get_or (replicate n (fresh door)) k (no_arm door)).out ≡ false
-  fresh_unmarked zero k = refl
-  fresh_unmarked (suc n) zero = refl
-  fresh_unmarked (suc n) (suc k) = fresh_unmarked n k
-
-  begun : (s : State At) (i : ℕ) → NoPassOut door s → NoPassOut door (after door s (Begin i))
-  begun s i u = unless_both (refusal_of door s (Begin i)) _ s (NoPassOut door) (λ _. set_unmarked s.arms (i - 1) _ (u i) u) u
 
   stepped_so : (s : State At) (i : ℕ) → NoPassOut door s → NoPassOut door (stepped door i s)
   stepped_so s i u k =
@@ -57,12 +50,12 @@ module _ {At : Type 0} (door : Table At) where
 
   pub opening_spent : (s : State At) (asked : List ℕ) → NoPassOut door s → NoPassOut door (run door s (opening asked))
   opening_spent s [] u = u
-  opening_spent s (i ∷ more) u = begun s i u
+  opening_spent s (i ∷ more) u = unless_both (refusal_of door s (Begin i)) _ s (NoPassOut door) (λ _. set_unmarked s.arms (i - 1) _ (u i) u) u
 
   pub serving_spent : (s : State At) (r : Option ℕ) → NoPassOut door s → NoPassOut door (run door s (serving_any door s r))
   serving_spent s None u = u
   serving_spent s (Some i) u = by (λ cs. NoPassOut door (run door s cs)) (is_inside door s i) _ _ (λ y. admitted_left s i y u)
       (λ _. unless_both (refusal_of door s (Step i)) (stepped door i s) s (NoPassOut door) (λ _. stepped_so s i u) u)
 
-  pub started_spent : (making : Making) → NoPassOut door (made door making)
-  started_spent making i = fresh_unmarked arm_limit (i - 1)
+  pub started_spent : (making : Making) (s : State At) → s ≡ made door making → NoPassOut door s
+  started_spent making s e = subst (NoPassOut door) (sym e) (λ i. kept_replicate (λ a. a.out ≡ false) arm_limit (fresh door) (no_arm door) refl refl (i - 1))

@@ -1,7 +1,7 @@
 -- A move serves the first arm not idle, so n moves serve every arm, and a waiting arm goes inside.
 use Rattle.std.proofs.Common.{◌≡◌, ℕ, zero, suc, ◌+◌, ◌*◌, ◌<◌, ◌≤◌, not, T, ◌⊎◌, inl, inr, List, [], ◌∷◌, ◌++◌, length, take, drop, Some, None, Option, sym, refl, ap, ◌∙◌, subst, arith}
 use Rattle.std.proofs.lemmas.Bool.Decides.{nat_tests}
-use Rattle.std.proofs.lemmas.List.{append_assoc, take-append-drop, length-take-le, length-drop}
+use Rattle.std.proofs.lemmas.List.{append_assoc, take-append-drop, length-take-le, length-drop, nil_from_length}
 use Rattle.std.proofs.Math.Nat.{mul-suc}
 use Rattle.gate_model.specs.Calls.{after, run}
 use Rattle.gate_model.specs.History.{is_in, Waits, Moves, Rounds}
@@ -115,9 +115,6 @@ module _ {At : Type 0} (door : Table At) where
   only_calls d [] = refl
   only_calls d (asked ∷ more) = only_calls (moved door d asked) more ∙ sym (run_append door (calls_of_move door d asked) (calls_of_moves door (moved door d asked) more) d.gate)
 
-  after_moves_n : (d : Dispatch At) (rings : List (List ℕ)) → (after_moves door d rings).gate.n ≡ d.gate.n
-  after_moves_n d rings = ap (λ s. s.n) (only_calls d rings) ∙ run_n door (calls_of_moves door d rings) d.gate
-
   after_moves_ready : (rings : List (List ℕ)) (d : Dispatch At) → IsDispatcher door d → IsDispatcher door (after_moves door d rings)
   after_moves_ready [] d ready = ready
   after_moves_ready (asked ∷ more) d ready = after_moves_ready more (moved door d asked) (ready_after d asked ready)
@@ -126,26 +123,23 @@ module _ {At : Type 0} (door : Table At) where
   calls_append [] ys d = refl
   calls_append (asked ∷ xs) ys d = ap (λ cs. calls_of_move door d asked ++ cs) (calls_append xs ys (moved door d asked)) ∙ sym (append_assoc (calls_of_move door d asked) (calls_of_moves door (moved door d asked) xs) (calls_of_moves door (after_moves door (moved door d asked) xs) ys))
 
-  none_left : (rings : List (List ℕ)) → length rings ≡ 0 → rings ≡ []
-  none_left [] e = refl
-  none_left (r ∷ rings) e = absurd (omega (arith, e))
-
   -- k times n moves are k rounds
   in_rounds : (k : ℕ) (d : Dispatch At) (rings : List (List ℕ)) → IsDispatcher door d → length rings ≡ d.gate.n * k → Rounds door k d.gate (calls_of_moves door d rings)
-  in_rounds zero d rings ready e = ap (calls_of_moves door d) (none_left rings (e ∙ omega arith))
+  in_rounds zero d rings ready e = ap (calls_of_moves door d) (nil_from_length rings (e ∙ omega arith))
   in_rounds (suc k) d rings ready e =
       let n = d.gate.n in
       let first = take n rings in
       let rest = drop n rings in
       let many : length rings ≡ n * k + n = e ∙ mul-suc n k in
       let short : length first ≡ n = length-take-le n rings (omega (arith, many)) in
-      let left : length rest ≡ n * k = length-drop n rings ∙ omega (arith, many) in (
+      let left : length rest ≡ n * k = length-drop n rings ∙ omega (arith, many) in
+      let same : (after_moves door d first).gate.n ≡ n = ap (λ s. s.n) (only_calls d first) ∙ run_n door (calls_of_moves door d first) d.gate in (
         calls_of_moves door d first,
         calls_of_moves door (after_moves door d first) rest,
         ap (calls_of_moves door d) (sym (take-append-drop n rings)) ∙ calls_append first rest d,
         all_served d ready first short,
         subst (λ t. Rounds door k t (calls_of_moves door (after_moves door d first) rest)) (only_calls d first)
-            (in_rounds k (after_moves door d first) rest (after_moves_ready first d ready) (left ∙ ap (λ m. m * k) (sym (after_moves_n d first)))),
+            (in_rounds k (after_moves door d first) rest (after_moves_ready first d ready) (left ∙ ap (λ m. m * k) (sym same))),
       )
 
   module _ (phased : Phased door) (rules : ShowsRules door) (way : ShowsWay door) (d : Dispatch At) (ready : IsDispatcher door d) where
@@ -162,20 +156,14 @@ module _ {At : Type 0} (door : Table At) where
     fifty : Enough (50 * d.gate.n + 10)
     fifty w wait = rounds_few door way d.gate.n (some_arm door d.gate w wait)
 
-    eight : Enough (8 * d.gate.n + 20)
-    eight w wait = way.few d.gate.n
-
-    named : Enough (door.rounds d.gate.n)
-    named w wait = omega arith
-
     pub law_of_moves : LawOfMoves door d
     law_of_moves = record {
       calls = only_calls d;
       served = all_served d ready;
       inside = inside (50 * d.gate.n + 10) fifty;
       seen = seen (50 * d.gate.n + 10) fifty;
-      inside_sooner = inside (8 * d.gate.n + 20) eight;
-      seen_sooner = seen (8 * d.gate.n + 20) eight;
-      inside_by_door = inside (door.rounds d.gate.n) named;
-      seen_by_door = seen (door.rounds d.gate.n) named;
+      inside_sooner = inside (8 * d.gate.n + 20) (λ w wait. way.few d.gate.n);
+      seen_sooner = seen (8 * d.gate.n + 20) (λ w wait. way.few d.gate.n);
+      inside_by_door = inside (door.rounds d.gate.n) (λ w wait. omega arith);
+      seen_by_door = seen (door.rounds d.gate.n) (λ w wait. omega arith);
     }

@@ -1,6 +1,4 @@
-use Rattle.std.proofs.Common.{◌<◌, ◌≤◌, length, ap, ◌∙◌, arith}
-use Rattle.bank.specs.Lent.{touched}
-use Rattle.bank.specs.Registers.{written}
+use Rattle.std.proofs.Common.{◌<◌, ◌≤◌, length, arith}
 use Rattle.gate_model.proofs.Rooms.{cleared_more, cleared_memory_more}
 use Rattle.gate.proofs.making.clear.Goals as goal
 
@@ -11,12 +9,6 @@ loop-i-preserved g c =
     let regs = g.B.Bank.values c.args.bank.now in
     let h : c.loop-i.i < length (g.B.Bank.values c.args.bank.now) = omega arith in
     let fits : door.first c.loop-i.i ≤ high = omega (arith, c.first.ensures.fits) in (
-      c.write.ensures.after
-          ∙ ap (λ v. written high (g.B.Bank.values c.loop-i.bank) c.loop-i.i v) c.first.ensures.is
-          ∙ ap (λ xs. written high xs c.loop-i.i (door.first c.loop-i.i)) c.loop-i.invariant.0
-          ∙ cleared_more door high c.loop-i.i regs h fits,
-      c.write.ensures.lent
-          ∙ ap (touched (g.B.Bank.memory c.loop-i.bank) c.loop-i.i) c.first.ensures.is
-          ∙ ap (λ memory. touched memory c.loop-i.i (door.first c.loop-i.i)) c.loop-i.invariant.1
-          ∙ cleared_memory_more door c.loop-i.i (g.B.Bank.memory c.args.bank.now),
+      rw (c.write.ensures.after, c.first.ensures.is, c.loop-i.invariant.0) (cleared_more door high c.loop-i.i regs h fits),
+      rw (c.write.ensures.lent, c.first.ensures.is, c.loop-i.invariant.1) (cleared_memory_more door c.loop-i.i (g.B.Bank.memory c.args.bank.now)),
     )

@@ -1,47 +1,12 @@
-use Rattle.std.proofs.Common.{◌≡◌, ℕ, ◌<◌, ◌≤◌, List, length, replicate, sym, ap, ◌∙◌, subst, arith, rules}
+use Rattle.std.proofs.Common.{◌≡◌, ℕ, ◌<◌, ◌≤◌, List, ap, ◌∙◌, arith}
 use Rattle.std.proofs.lemmas.Bool.Decides.{nat_tests}
 use Rattle.gate_model.proofs.Origins.{reached_made}
 use Rattle.bank.specs.Lent.{Lent}
-use Rattle.gate_model.specs.Arms.{fresh}
-use Rattle.gate_model.specs.Limits.{arm_limit}
-use Rattle.gate_model.specs.Making.{Making, arms_of, cleared, made_regs, cleared_memory, made_memory}
-use Rattle.gate_model.specs.States.{made}
+use Rattle.gate_model.specs.Making.{cleared, made_regs, cleared_memory, made_memory}
 use Rattle.gate_model.specs.Table.{Table}
-use Rattle.gate_model.specs.declared.arm.Arm.{Arm}
-use Rattle.gate_model.proofs.Rooms.{arms_few, arms_fit}
 use Rattle.gate.proofs.InHand.{in_hand}
 use Rattle.gate.proofs.gate.Gate.make.Goals as goal
 use Rattle.gate.proofs.gate.Gate.make.Goals.{then-n-gt0, else-n-gt0}
-
-pub registers-requires : goal.registers-requires
-registers-requires g c = subst (λ n. n ≤ arm_limit) (sym c.arm_count-n.ensures) (arms_few g.D.Door.table _ _ _)
-
-pub clear-requires : goal.clear-requires
-clear-requires g c =
-    let door = g.D.Door.table in
-    let high = g.B.Bank.HIGHEST in
-    let len = length (g.B.Bank.values c.args.bank) in
-    let some = subst (λ n. 0 < n) c.arm_count-n.ensures c.if-n-gt0.true in
-    let fit = arms_fit door high len c.args.wanted some in
-    record {
-      count = subst (λ k. k ≤ len) (sym c.registers.ensures.is) (subst (λ n. door.room n ≤ len) (sym c.arm_count-n.ensures) fit.0);
-      high = fit.1;
-    }
-
--- a gate put together from what its parts are
-made_of : {At : Type 0} (door : Table At) (making : Making) (lent : Lent) (n : ℕ) (new : List ℕ) (arms : List (Arm At))
-    → n ≡ arms_of door making → lent ≡ made_memory door n making.memory → new ≡ made_regs door n making.regs → arms ≡ replicate arm_limit (fresh door)
-    → record { memory = lent; high = making.high; number = making.number; n = n; regs = new; arms = arms; turns = 0 } ≡ made door making
-made_of door making lent n new arms en el er ea =
-    λ i. record {
-      memory = (el ∙ ap (λ k. made_memory door k making.memory) en) i;
-      high = making.high;
-      number = making.number;
-      n = en i;
-      regs = (er ∙ ap (λ k. made_regs door k making.regs) en) i;
-      arms = ea i;
-      turns = 0;
-    }
 
 some_made : {At : Type 0} (door : Table At) (n : ℕ) (memory : Lent) (regs : List ℕ) → 0 < n
     → (cleared door (door.room n) regs ≡ made_regs door n regs) × (cleared_memory door (door.room n) memory ≡ made_memory door n memory)
@@ -65,9 +30,7 @@ returns-clause-made g c =
       )
       | else-n-gt0 w ↦ (ap bank.values w.bank-is ∙ (none_made door n memory regs w.if-n-gt0.false).0, ap bank.memory w.bank-is ∙ (none_made door n memory regs w.if-n-gt0.false).1)
     ] in
-    let making : Making = record { memory = memory; high = bank.HIGHEST; number = c.args.number; wanted = c.args.wanted; regs = regs } in
-    made_of door making (bank.memory c.if-n-gt0.bank) n (bank.values c.if-n-gt0.bank) c.fresh_arms.result
-    c.arm_count-n.ensures written.1 written.0 c.fresh_arms.ensures
+    rw (written.1, written.0, c.fresh_arms.ensures, c.arm_count-n.ensures)
 
 pub invariant_of-result : goal.invariant_of-result
 invariant_of-result g c = in_hand g.D.Door.table _ (reached_made g.D.Door.table _ _ (returns-clause-made g c))

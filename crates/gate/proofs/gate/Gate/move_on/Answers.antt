@@ -2,7 +2,6 @@ use Rattle.std.proofs.Common.{◌≡◌, ℕ, ◌-◌, ◌<◌, ◌≤◌, cond,
 use Rattle.std.proofs.lemmas.List.{get_or_read}
 use Rattle.gate_model.specs.Arms.{no_arm, side_of}
 use Rattle.gate_model.specs.Calls.{refusal_of, stepped}
-use Rattle.gate_model.specs.Law.{IsReached}
 use Rattle.gate_model.specs.Phases.{same_phase}
 use Rattle.gate_model.specs.Registers.{turns_bit}
 use Rattle.gate_model.specs.States.{State, arm_at}
