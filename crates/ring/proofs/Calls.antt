@@ -14,15 +14,15 @@ module _ {X : Type 0} (s : Span) (slots : List X) (fits : Fits s (length slots))
   count_is = simp (length-take, length-drop, length-append) (omega arith)
 
   -- the item that is so many behind the first
-  item : (j : ℕ) (d : X) → j < s.count → get_or (laid s slots) j d ≡ get_or slots (place s j (length slots)) d
+  at_place : (j : ℕ) (d : X) → j < s.count → get_or (laid s slots) j d ≡ get_or slots (place s j (length slots)) d
   unfolding laid
-  item j d l = grind (arith, nat_tests, get_or-take {A = X}, get_or-drop {A = X}, get_or_append_left {A = X}, get_or-append_right {A = X})
+  at_place j d l = grind (arith, nat_tests, get_or-take {A = X}, get_or-drop {A = X}, get_or_append_left {A = X}, get_or-append_right {A = X})
 
   pub none_first : s.count ≡ 0 → None ≡ slice_get (laid s slots) 0
   none_first none = sym (slice_get_past (laid s slots) 0 (omega (arith, count_is)))
 
   pub some_first : 0 < s.count → (d : X) → Some (get_or slots s.head d) ≡ slice_get (laid s slots) 0
-  some_first some d = let first = item 0 d some in let n = count_is in grind (arith, nat_tests, slice_get-get_or (laid s slots) 0 d)
+  some_first some d = let first = at_place 0 d some in let n = count_is in grind (arith, nat_tests, slice_get-get_or (laid s slots) 0 d)
 
 module _ {X : Type 0} where
   one_more : (s : Span) (slots : List X) (x : X) → Fits s (length slots) → s.count < length slots
@@ -36,8 +36,8 @@ module _ {X : Type 0} where
       let m = count_is more (set slots at x) fits_more in
       ext_get_or x (laid more (set slots at x)) (laid s slots ++ x ∷ []) (omega (arith, length_push (laid s slots) x))
       (λ j l.
-      let t = item more (set slots at x) fits_more j x (omega arith) in
-      let u = item s slots fits j x in
+      let t = at_place more (set slots at x) fits_more j x (omega arith) in
+      let u = at_place s slots fits j x in
       grind (arith, nat_tests, get_or-set_at {X = X}, get_or-set_other {A = X}, get_or_append_left {A = X}, get_or_push {X = X}))
 
   pub put_items : (s : Span) (slots : List X) → Fits s (length slots) → (x : X)
@@ -55,6 +55,6 @@ module _ {X : Type 0} where
       let m = count_is fewer slots fits_fewer in
       ext_get_or x (laid fewer slots) (drop 1 (laid s slots)) (grind (arith, nat_tests, length-drop {A = X}))
       (λ j l.
-      let t = item fewer slots fits_fewer j x (omega arith) in
-      let u = item s slots fits (1 + j) x in
+      let t = at_place fewer slots fits_fewer j x (omega arith) in
+      let u = at_place s slots fits (1 + j) x in
       grind (arith, nat_tests, get_or_after_one {X = X}))
