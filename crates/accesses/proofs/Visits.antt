@@ -1,5 +1,5 @@
 -- A pass that was just given is taken back, and one that is refused alters nothing.
-use Rattle.std.proofs.Common.{◌≡◌, ℕ, Bool, not, T, ◌≢◌, Ok, Err, None, Option, Result, IsTrue, IfOk, IsOk, IsErr, sym, ap, ◌∙◌, subst, arith}
+use Rattle.std.proofs.Common.{◌≡◌, ℕ, Bool, not, T, ◌≢◌, Ok, Err, None, Option, Result, IsTrue, IfOk, IsOk, IsErr, sym, ap, ◌∙◌, arith}
 use Rattle.std.proofs.lemmas.Bool.Decides.{nat_tests}
 use Rattle.gate_model.specs.Calls.{refusal_of, after, unless, answered, knows, way_answer}
 use Rattle.gate_model.specs.History.{is_in}

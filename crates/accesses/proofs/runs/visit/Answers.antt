@@ -1,4 +1,4 @@
-use Rattle.std.proofs.Common.{sym, subst, ap, ◌∙◌}
+use Rattle.std.proofs.Common.{sym, ap, ◌∙◌}
 use Rattle.gate_model.specs.Calls.{after}
 use Rattle.gate_model.specs.declared.call.Call.TheVariants.{Admit, Leave}
 use Rattle.gate.specs.Answers.{leave_answer}
