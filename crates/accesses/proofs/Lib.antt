@@ -1,3 +1,2 @@
 pub mod Turns
 pub mod Visits
-pub mod OneMoveMore

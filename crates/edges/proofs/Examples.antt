@@ -16,77 +16,38 @@ steps_of i k = replicate k (step i)
 
 -- arm 1 goes inside past arm 2, leaves, and is idle again
 abbrev first : State ThreeBits
-first = made three_bits (unlogged 0) 1 0 2 (replicate 9 1)
+first = made three_bits (record { memory = unlogged 0; high = 1; number = 0; wanted = 2; regs = replicate 9 1 })
 
 abbrev one_past : List Call
 one_past = begin 1 ∷ [] ++ steps_of 1 5 ++ (begin 2 ∷ []) ++ steps_of 2 5 ++ steps_of 1 6 ++ (admit 1 ∷ leave 0 1 ∷ []) ++ steps_of 1 3
 
-turned : get_or (run three_bits first one_past).regs 0 0 ≡ 1
+-- the bit turned; 2 still waits, read a bit of 0, was passed once, and has the way
+after_one_past : (get_or (run three_bits first one_past).regs 0 0 ≡ 1) × (phase_at three_bits (run three_bits first one_past) 2 ≡ P.W) × (bit_read three_bits 2 first one_past ≡ 0)
+    × (entries_since three_bits 2 1 first one_past ≡ 1) × (has_way three_bits (run three_bits first one_past) 2 ≡ true)
 unfolding largest
-turned = refl
-
-still_waits : phase_at three_bits (run three_bits first one_past) 2 ≡ P.W
-unfolding largest
-still_waits = refl
-
-bit_of_second : bit_read three_bits 2 first one_past ≡ 0
-unfolding largest
-bit_of_second = refl
-
-past_second : entries_since three_bits 2 1 first one_past ≡ 1
-unfolding largest
-past_second = refl
-
-way_of_second : has_way three_bits (run three_bits first one_past) 2 ≡ true
-unfolding largest
-way_of_second = refl
+after_one_past = (refl, refl, refl, refl, refl)
 
 -- arm 2 goes inside twice past arm 1
 abbrev second : State ThreeBits
-second = made three_bits (unlogged 0) 255 7 3 (replicate 10 9)
+second = made three_bits (record { memory = unlogged 0; high = 255; number = 7; wanted = 3; regs = replicate 10 9 })
 
 abbrev two_past : List Call
 two_past = begin 2 ∷ begin 3 ∷ [] ++ steps_of 2 5 ++ steps_of 3 5 ++ steps_of 3 9 ++ (admit 3 ∷ leave 7 3 ∷ []) ++ steps_of 3 2 ++ (begin 1 ∷ []) ++ steps_of 1 5 ++ steps_of 2 1
     ++ (admit 2 ∷ leave 7 2 ∷ []) ++ steps_of 2 2 ++ (begin 2 ∷ []) ++ steps_of 2 5 ++ steps_of 2 15
 
-bit_of_first : bit_read three_bits 1 second two_past ≡ 1
+-- 1 read a bit of 1, was passed twice, and its row says so; 2 was not idle meanwhile, 3 was
+after_two_past : (bit_read three_bits 1 second two_past ≡ 1) × (entries_since three_bits 1 2 second two_past ≡ 2) × (get_or (arm_at three_bits (run three_bits second two_past) 1).row 1 0 ≡ 2)
+    × (idle_then three_bits 1 2 second two_past ≡ false) × (idle_then three_bits 1 3 second two_past ≡ true)
 unfolding largest
-bit_of_first = refl
-
-past_first : entries_since three_bits 1 2 second two_past ≡ 2
-unfolding largest
-past_first = refl
-
-row_of_first : get_or (arm_at three_bits (run three_bits second two_past) 1).row 1 0 ≡ 2
-unfolding largest
-row_of_first = refl
-
-busy_then : idle_then three_bits 1 2 second two_past ≡ false
-unfolding largest
-busy_then = refl
-
-idle_third : idle_then three_bits 1 3 second two_past ≡ true
-unfolding largest
-idle_third = refl
+after_two_past = (refl, refl, refl, refl, refl)
 
 -- arms 1 and 2 wait, 1 goes inside and then 2, and both leave
 abbrev both_past : List Call
 both_past = begin 1 ∷ [] ++ steps_of 1 5 ++ (begin 2 ∷ []) ++ steps_of 2 5 ++ steps_of 1 6 ++ steps_of 2 6
     ++ (admit 1 ∷ leave 0 1 ∷ []) ++ steps_of 1 2 ++ (admit 2 ∷ leave 0 2 ∷ []) ++ steps_of 2 2
 
--- 2 went inside since 1 ended its doorway, but 1 was inside by then and lost nothing
-past_one_inside : entries_since three_bits 1 2 first both_past ≡ 1
+-- 2 went inside since 1 ended its doorway, but 1 was inside by then and lost nothing; 2 lost to 1, and its row says so
+after_both_past : (entries_since three_bits 1 2 first both_past ≡ 1) × (lost_to three_bits 1 2 first both_past ≡ 0) × (lost_to three_bits 2 1 first both_past ≡ 1)
+    × (get_or (arm_at three_bits (run three_bits first both_past) 2).row 0 0 ≡ 1)
 unfolding largest
-past_one_inside = refl
-
-lost_by_one : lost_to three_bits 1 2 first both_past ≡ 0
-unfolding largest
-lost_by_one = refl
-
-lost_by_two : lost_to three_bits 2 1 first both_past ≡ 1
-unfolding largest
-lost_by_two = refl
-
-row_of_idle : get_or (arm_at three_bits (run three_bits first both_past) 2).row 0 0 ≡ 1
-unfolding largest
-row_of_idle = refl
+after_both_past = (refl, refl, refl, refl)

@@ -1,6 +1,6 @@
 use Rattle.std.proofs.Common.{◌+◌, [], ◌∷◌, ap, ◌∙◌, arith}
 use Rattle.gate_model.specs.declared.call.Call.TheVariants.{Admit, Leave}
-use Rattle.gate_model.specs.Calls.{after, knows}
+use Rattle.gate_model.specs.Calls.{after}
 use Rattle.plantday.specs.Records.{with_move}
 use Rattle.plantday.proofs.deliver.Goals as goal
 use Rattle.plantday.proofs.deliver.Goals.{then-known, else-known}

@@ -1,4 +1,4 @@
-use Rattle.accesses.proofs.OneMoveMore.{one_move}
+use Rattle.dispatcher.proofs.OneMoveMore.{one_move}
 use Rattle.accesses.proofs.moves.make_moves.Goals as goal
 
 pub loop-t-preserved : goal.loop-t-preserved
