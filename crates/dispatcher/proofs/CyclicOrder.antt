@@ -44,9 +44,21 @@ nearer_round n last b c within low lo hi = grind (arith, nat_tests)
 pub in_line_found : (p : ℕ → Bool) (n last b : ℕ) → last ≤ n → 1 ≤ b → b ≤ n → T (p b)
     → (c : ℕ) × (find p (in_turn n last) ≡ Some c) × ((c ≡ b) ⊎ (places_ahead n c b < places_ahead n last b))
 in_line_found p n last b within lo hi h = elim (first_part p (last + 1) (n - last) (range_with_len 1 last)) [
-  | inl f ↦ (f.0, f.1, ⊎_elim (λ low. nearer_low n last b f.0 (omega (arith, f.2)) (f.4 b (omega (arith, low)) h)) (λ high. inr (nearer_high n last b f.0 high (omega (arith, f.2)) (omega (arith, f.3)) lo)) (cases_lt last b))
+  | inl f ↦ (
+    f.0,
+    f.1,
+    ⊎_elim
+        (λ low. nearer_low n last b f.0 (omega (arith, f.2)) (f.4 b (omega (arith, low)) h))
+        (λ high. inr (nearer_high n last b f.0 high (omega (arith, f.2)) (omega (arith, f.3)) lo))
+        (cases_lt last b),
+  )
   | inr e ↦ elim (first_part p 1 last []) [
-    | inl f ↦ (f.0, e.0 ∙ ap (find p) (sym (append-nil _)) ∙ f.1, nearer_round n last b f.0 within (⊎_elim (λ low. absurd (omega (arith, within, e.1 b (omega (arith, low)) h))) (λ high. high) (cases_lt last b)) f.2 (f.4 b lo h))
+    | inl f ↦ (
+      f.0,
+      e.0 ∙ ap (find p) (sym (append-nil _)) ∙ f.1,
+      nearer_round n last b f.0 within
+          (⊎_elim (λ low. absurd (omega (arith, within, e.1 b (omega (arith, low)) h))) (λ high. high) (cases_lt last b)) f.2 (f.4 b lo h),
+    )
     | inr none ↦ absurd (omega (arith, within, e.1 b (omega (arith, none.1 b lo h)) h))
   ]
 ]

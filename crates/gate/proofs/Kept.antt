@@ -40,10 +40,12 @@ module _ {At : Type 0} (door : Table At) where
       (λ _. marks_same s (stepped door i s) refl refl (λ j. ((tallied_table door (i - 1) _ _ _).0 (j - 1)).2 ∙ same_mark s.arms (i - 1) (j - 1) (arm_after door s i) refl)) refl)
 
   -- the mark of an arm put or cleared
-  put : (s : State At) (i : ℕ) (a : Arm At) → s.n ≤ length s.arms → a.out ≡ true → T (is_arm s i) → (gate arm : ℕ) → knows door (with_arm i a s) gate arm ≡ (knows door s gate arm || (eqb arm i && eqb gate s.number))
+  put : (s : State At) (i : ℕ) (a : Arm At) → s.n ≤ length s.arms → a.out ≡ true → T (is_arm s i) → (gate arm : ℕ)
+      → knows door (with_arm i a s) gate arm ≡ (knows door s gate arm || (eqb arm i && eqb gate s.number))
   put s i a full out is gate arm = ⊎_elim (λ y. grind (arith, nat_tests, get_or-set_same)) (λ n. grind (arith, nat_tests, get_or-set_other)) (test (eqb arm i))
 
-  cleared : (s : State At) (i number : ℕ) (a : Arm At) → s.n ≤ length s.arms → a.out ≡ false → T (knows door s number i) → (gate arm : ℕ) → knows door (with_arm i a s) gate arm ≡ (knows door s gate arm && not (eqb arm i && eqb gate number))
+  cleared : (s : State At) (i number : ℕ) (a : Arm At) → s.n ≤ length s.arms → a.out ≡ false → T (knows door s number i) → (gate arm : ℕ)
+      → knows door (with_arm i a s) gate arm ≡ (knows door s gate arm && not (eqb arm i && eqb gate number))
   cleared s i number a full out known gate arm = ⊎_elim (λ y. grind (arith, nat_tests, get_or-set_same)) (λ n. grind (arith, nat_tests, get_or-set_other)) (test (eqb arm i))
 
   given : (s : State At) (i : ℕ) (r : Option Refusal) → s.n ≤ length s.arms → (r ≡ None → T (is_arm s i))
@@ -66,4 +68,5 @@ module _ {At : Type 0} (door : Table At) where
   kept s p n = λ j gate arm. (let strange : knows door s gate arm ≡ (knows door s gate arm && not (eqb arm p.arm && eqb gate p.gate)) = grind (arith, nat_tests) in strange) j
 
   pub leave_takes : (s t : State At) (p : Pass) → s.n ≤ length s.arms → t ≡ after door s (Leave p.gate p.arm) → passes_out door t ≡ without p (passes_out door s)
-  leave_takes s t p full e = rw e (by (λ r. passes_out door (unless r (done door s (Leave p.gate p.arm)) s) ≡ without p (passes_out door s)) (knows door s p.gate p.arm) None (Some R.StrangePass) (spent s p full) (kept s p))
+  leave_takes s t p full e = rw e (by (λ r. passes_out door (unless r (done door s (Leave p.gate p.arm)) s) ≡ without p (passes_out door s))
+      (knows door s p.gate p.arm) None (Some R.StrangePass) (spent s p full) (kept s p))
