@@ -1,5 +1,5 @@
 -- A dispatcher, and what holds of every dispatcher in hand.
-use Rattle.std.specs.Prelude.{◌≡◌, ℕ, ◌≤◌, false, List}
+use Rattle.std.specs.Prelude.{◌≡◌, ℕ, ◌≤◌, false}
 use Rattle.gate_model.specs.Law.{IsReached}
 use Rattle.gate_model.specs.Making.{Making}
 use Rattle.gate_model.specs.States.{State, made, arm_at}
