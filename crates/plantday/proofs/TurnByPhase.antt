@@ -29,6 +29,11 @@ module _ {At : Type 0} (door : Table At) where
   arm_steps k dice s t notes from to first second busy phase answer step note move = rw (phase, stepping k (plant s dice notes) from busy, move, note, ahead s k to answer, step)
 
   -- one turn more, of the arm that the dice pick
-  pub turns_on : (t k dice : ℕ) (start now next : Plant At) → now ≡ turns_of door t start → k ≡ picked now.dice → dice ≡ dice_after_pick now.dice → next ≡ turned door k (record now { dice = dice }) → next ≡ turns_of door (t + 1) start
+  pub turns_on : (t k dice : ℕ) (start now next : Plant At) → now ≡ turns_of door t start → k ≡ picked now.dice → dice ≡ dice_after_pick now.dice
+      → next ≡ turned door k (record now { dice = dice }) → next ≡ turns_of door (t + 1) start
   unfolding turns_of
-  turns_on t k dice start now next before arm rolls turn = rw add-one (turn ∙ ap (λ d. turned door k (record now { dice = d })) rolls ∙ ap (λ i. turned door i (record now { dice = dice_after_pick now.dice })) arm ∙ ap (next_turn door) before)
+  turns_on t k dice start now next before arm rolls turn =
+      rw add-one (turn
+      ∙ ap (λ d. turned door k (record now { dice = d })) rolls
+      ∙ ap (λ i. turned door i (record now { dice = dice_after_pick now.dice })) arm
+      ∙ ap (next_turn door) before)
