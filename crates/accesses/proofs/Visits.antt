@@ -1,5 +1,5 @@
 -- A pass that was just given is taken back, and one that is refused alters nothing.
-use Rattle.std.proofs.Common.{◌≡◌, ℕ, Bool, not, T, ◌≢◌, Ok, Err, None, Option, Result, IsTrue, IfOk, IsOk, IsErr, sym, ap, ◌∙◌, arith}
+use Rattle.std.proofs.Common.{◌≡◌, ℕ, Bool, not, T, ◌≢◌, Ok, Err, None, Option, Result, IsTrue, IfOk, IsOk, IsErr, sym, ◌∙◌, arith}
 use Rattle.std.proofs.lemmas.Bool.Decides.{nat_tests}
 use Rattle.gate_model.specs.Calls.{refusal_of, after, unless, answered, knows, way_answer}
 use Rattle.gate_model.specs.History.{is_in}
@@ -55,12 +55,7 @@ module _ {At : Type 0} (door : Table At) where
   pub visit : (s t u : State At) (i : ℕ) (pass : Pass) → refusal_of door s (Admit i) ≡ None → admit_answer door s i ≡ Ok pass → t ≡ after door s (Admit i) → u ≡ after door t (Leave pass.gate pass.arm) → u ≡ visited door s i
   visit s t u i pass none h first last =
       let is = admitted s i pass none h in
-      let inside = after door s (Admit i) in
-      last
-      ∙ ap (λ x. after door x (Leave pass.gate pass.arm)) first
-      ∙ ap (λ g. after door inside (Leave g pass.arm)) is.0
-      ∙ ap (λ k. after door inside (Leave s.number k)) is.1
-      ∙ sym (ap (λ r. unless r (after door inside (Leave s.number i)) s) none)
+      cc
 
   -- an arm that does not wait
   pub no_way : (s : State At) (i : ℕ) (answer : Result Bool Refusal) → T (not (is_in door P.W s i)) → answer ≡ way_answer door s i → IsErr answer

@@ -3,7 +3,7 @@ use Rattle.std.proofs.Common.{◌≡◌, ℕ, zero, suc, ◌≤◌, Bool, true, 
 use Rattle.std.specs.Fmt.{digits}
 use Rattle.std.specs.Str.{bytes_eq}
 use Rattle.std.proofs.lemmas.Slice.Eq.{bytes_eq-Decides}
-use Rattle.std.proofs.lemmas.Bool.{and_parts, not-true, eqb-true, false≢true, cond-true, le-leb}
+use Rattle.std.proofs.lemmas.Bool.{and_parts, not-true, eqb-true, cond-true, le-leb}
 use Rattle.schedule.specs.Faults.{fault_number, fault_place, fault_order, fault_layer}
 use Rattle.schedule.specs.FileLimits.{file_limit}
 use Rattle.schedule.specs.Numbers.{groups, number_from}
@@ -54,23 +54,23 @@ empty_test (x ∷ xs) = false
 module _ {X : Type 0} {P : X → Type 0} (p : X → Bool) (shows : (x : X) → p x ≡ true → P x) where
   is_ok : {E : Type 0} (r : Result X E) → ok_test p r ≡ true → (x : X) × (r ≡ Ok x) × P x
   is_ok (Ok x) t = (x, refl, shows x t)
-  is_ok (Err e) t = absurd (false≢true t)
+  is_ok (Err e) t = cc
 
   is_err : {Y : Type 0} (r : Result Y X) → err_test p r ≡ true → (x : X) × (r ≡ Err x) × P x
-  is_err (Ok y) t = absurd (false≢true t)
+  is_err (Ok y) t = cc
   is_err (Err x) t = (x, refl, shows x t)
 
   is_some : (o : Option X) → some_test p o ≡ true → (x : X) × (o ≡ Some x) × P x
   is_some (Some x) t = (x, refl, shows x t)
-  is_some None t = absurd (false≢true t)
+  is_some None t = cc
 
 is_none : {X : Type 0} (o : Option X) → none_test o ≡ true → o ≡ None
-is_none (Some x) t = absurd (false≢true t)
+is_none (Some x) t = cc
 is_none None t = refl
 
 is_empty : {X : Type 0} (xs : List X) → empty_test xs ≡ true → xs ≡ []
 is_empty [] t = refl
-is_empty (x ∷ xs) t = absurd (false≢true t)
+is_empty (x ∷ xs) t = cc
 
 same_bytes : (xs ys : List ℕ) → bytes_eq xs ys ≡ true → xs ≡ ys
 same_bytes xs ys t = (bytes_eq-Decides xs ys).0 t
@@ -82,9 +82,7 @@ contents_test arms c = eqb c.arms arms && empty_test c.orders
 same_contents : (arms : ℕ) (c : Contents) → contents_test arms c ≡ true → c ≡ contents arms []
 same_contents arms c t =
     let both = and_parts (eqb c.arms arms) (empty_test c.orders) t in
-    let a = eqb-true c.arms arms both.0 in
-    let o = is_empty c.orders both.1 in
-    λ i. contents (a i) (o i)
+    λ i. contents (eqb-true c.arms arms both.0 i) (is_empty c.orders both.1 i)
 
 abbrev number_read_test : ℕ → ℕ → Number → Bool
 number_read_test value next n = eqb n.value value && eqb n.next next
@@ -92,9 +90,7 @@ number_read_test value next n = eqb n.value value && eqb n.next next
 same_number : (value next : ℕ) (n : Number) → number_read_test value next n ≡ true → n ≡ record { value = value; next = next }
 same_number value next n t =
     let both = and_parts (eqb n.value value) (eqb n.next next) t in
-    let v = eqb-true n.value value both.0 in
-    let e = eqb-true n.next next both.1 in
-    λ i. record { value = v i; next = e i }
+    λ i. record { value = eqb-true n.value value both.0 i; next = eqb-true n.next next both.1 i }
 
 abbrev fault_test : ℕ → ℕ → ℕ → List ℕ → PlayFault → Bool
 fault_test number place order layer f =

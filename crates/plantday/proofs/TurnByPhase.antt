@@ -1,5 +1,5 @@
 -- A turn of an arm that steps, and a turn more of a day.
-use Rattle.std.proofs.Common.{◌≡◌, ℕ, ◌+◌, ◌⊎◌, inl, inr, Ok, add-one, ap, ◌∙◌, arith}
+use Rattle.std.proofs.Common.{◌≡◌, ℕ, ◌+◌, ◌⊎◌, inl, inr, Ok, add-one, arith}
 use Rattle.gate_model.specs.Calls.{after}
 use Rattle.gate_model.specs.States.{State, arm_at, phase_at}
 use Rattle.gate_model.specs.Table.{Table}
@@ -9,7 +9,7 @@ use Rattle.gate_model.specs.declared.phase.Phase.TheVariants as P
 use Rattle.gate.specs.Answers.{look_answer, step_answer}
 use Rattle.gate.specs.declared.gate.View.{View}
 use Rattle.plantday.specs.Records.{with_move, noted}
-use Rattle.plantday.specs.Turns.{picked, dice_after_pick, Plant, plant, phase_ahead, plant_stepped, turned_in, turned, next_turn, turns_of}
+use Rattle.plantday.specs.Turns.{picked, dice_after_pick, Plant, plant, phase_ahead, plant_stepped, turned_in, turned, turns_of}
 use Rattle.plantday.specs.declared.record.Record.{Record}
 
 module _ {At : Type 0} (door : Table At) where
@@ -29,6 +29,7 @@ module _ {At : Type 0} (door : Table At) where
   arm_steps k dice s t notes from to first second busy phase answer step note move = rw (phase, stepping k (plant s dice notes) from busy, move, note, ahead s k to answer, step)
 
   -- one turn more, of the arm that the dice pick
-  pub turns_on : (t k dice : ℕ) (start now next : Plant At) → now ≡ turns_of door t start → k ≡ picked now.dice → dice ≡ dice_after_pick now.dice → next ≡ turned door k (record now { dice = dice }) → next ≡ turns_of door (t + 1) start
+  pub turns_on : (t k dice : ℕ) (start now next : Plant At) → now ≡ turns_of door t start → k ≡ picked now.dice → dice ≡ dice_after_pick now.dice
+      → next ≡ turned door k (record now { dice = dice }) → next ≡ turns_of door (t + 1) start
   unfolding turns_of
-  turns_on t k dice start now next before arm rolls turn = rw add-one (turn ∙ ap (λ d. turned door k (record now { dice = d })) rolls ∙ ap (λ i. turned door i (record now { dice = dice_after_pick now.dice })) arm ∙ ap (next_turn door) before)
+  turns_on t k dice start now next before arm rolls turn = rw add-one (cc)

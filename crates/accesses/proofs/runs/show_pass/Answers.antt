@@ -9,7 +9,8 @@ use Rattle.accesses.proofs.runs.show_pass.Goals as goal
 pub unwrap-requires : goal.unwrap-requires
 unwrap-requires g c =
     let back = strange g.D.Door.table c.confirm.new.self.gate c.leave.new.self.gate c.confirm.result.0 c.unwrap_err.result (sym c.leave.ensures.answer ∙ c.unwrap_err.ensures) c.leave.ensures.after in
-    taken_back three_bits c.admit.new.self c.admit.result c.unwrap-pass.result c.leave-2.result c.admit.ensures.known c.unwrap-pass.ensures (c.leave-2.ensures.answer ∙ ap (leave_answer three_bits c.admit.new.self) (back.1 ∙ c.confirm.ensures.same))
+    taken_back three_bits c.admit.new.self c.admit.result c.unwrap-pass.result c.leave-2.result c.admit.ensures.known c.unwrap-pass.ensures
+    (c.leave-2.ensures.answer ∙ ap (leave_answer three_bits c.admit.new.self) (back.1 ∙ c.confirm.ensures.same))
 
 pub returns-clause-gate : goal.returns-clause-gate
 returns-clause-gate g c =

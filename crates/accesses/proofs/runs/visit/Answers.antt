@@ -10,7 +10,8 @@ unwrap-requires g c =
     let door = g.D.Door.table in
     let given = c.admit.new.self.gate in
     let same = c.confirm.ensures.after ∙ stays door given c.admit-2.new.self.gate (Admit c.args.arm) _ c.unwrap_err.result (sym c.admit-2.ensures.answer ∙ c.unwrap_err.ensures) c.admit-2.ensures.after in
-    taken_back door given c.admit.result c.unwrap-pass.result c.leave.result c.admit.ensures.known c.unwrap-pass.ensures (c.leave.ensures.answer ∙ ap (leave_answer door c.confirm.new.self.gate) c.confirm.ensures.same ∙ ap (λ s. leave_answer door s c.unwrap-pass.result) same)
+    taken_back door given c.admit.result c.unwrap-pass.result c.leave.result c.admit.ensures.known c.unwrap-pass.ensures
+    (c.leave.ensures.answer ∙ ap (leave_answer door c.confirm.new.self.gate) c.confirm.ensures.same ∙ ap (λ s. leave_answer door s c.unwrap-pass.result) same)
 
 pub returns : goal.returns
 returns g c =
