@@ -85,7 +85,8 @@ module _ {At : Type 0} (door : Table At) where
   abbrev pub arm_after : State At → ℕ → Arm At
   arm_after s i = advanced door s.n (value_read s.regs (access_at s i)) (arm_at door s i)
 
-  -- the state after an accepted step of arm i: its access is made, its record moves on, rows and notes follow, and a turn is counted
+  -- the state after an accepted step of arm i: its access is made, its record has the next position, rows and notes follow, and
+  -- a turn of the bit is counted
   abbrev pub stepped : ℕ → State At → State At
   stepped i s =
       record s {

@@ -39,7 +39,7 @@ module _ {At : Type 0} (door : Table At) where
   abbrev pub OnceItself : State At → List Call → State At → Type 0
   OnceItself start past s = (w : ℕ) → IsPastDoorway door s w → entries_since door w w start past ≡ (if is_in door P.W s w then 0 else 1)
 
-  -- the row of a waiting arm has how often each arm has gone inside since it ended its doorway
+  -- the row of a waiting arm counts how often each arm has gone inside since it ended its doorway
   abbrev pub RowCounts : State At → List Call → State At → Type 0
   RowCounts start past s = (w b : ℕ) → Waits door s w → T (is_arm s b) → slice_index (arm_at door s w).row (b - 1) ≡ entries_since door w b start past
 
@@ -47,7 +47,7 @@ module _ {At : Type 0} (door : Table At) where
   abbrev pub NotesTell : State At → List Call → State At → Type 0
   NotesTell start past s = (w b : ℕ) → Waits door s w → T (is_arm s b) → slice_index_or (arm_at door s w).notes (b - 1) false ≡ idle_then door w b start past
 
-  -- the row of every arm, whatever its phase, has how often each arm went inside while it last waited
+  -- the row of every arm, whatever its phase, counts how often each arm went inside while it last waited
   abbrev pub RowKept : State At → List Call → State At → Type 0
   RowKept start past s = (w b : ℕ) → T (is_arm s w) → T (is_arm s b) → slice_index (arm_at door s w).row (b - 1) ≡ lost_to door w b start past
 
