@@ -1,7 +1,7 @@
 -- The memory that a bank writes, and the log of its writes.
 use Rattle.std.specs.Prelude.{ℕ, List, ◌∷◌, Option, Some, None}
 
--- a value, to a register
+-- one write: a value to a register
 pub record Write : Type 0 where
   pub register : ℕ
   pub value : ℕ
@@ -16,8 +16,8 @@ abbrev pub logged : Write → Option (List Write) → Option (List Write)
 logged w (Some log) = Some (w ∷ log)
 logged w None = None
 
--- after a write of v to register i
--- what is proved over every bank is proved over those with a log: so it says which writes are made, and in which order
+-- the memory after a write of v to register i was asked of the bank. What is proved over every bank is proved over those
+-- that keep a log too, so it says which writes are made, and in which order
 abbrev pub touched : Lent → ℕ → ℕ → Lent
 touched lent i v = record lent { log = logged (record { register = i; value = v }) lent.log }
 

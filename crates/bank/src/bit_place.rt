@@ -4,7 +4,7 @@ ghost use Rattle.bank.specs.Bits.{place_of};
 // How many bits a word has.
 pub const WORD: usize = 64;
 
-// A bit of a row of words: which word, and which bit of it, both counted from 0.
+// The place of a bit in a list of words: which word, and which bit of it, both counted from 0.
 #[derive(Clone, Copy)]
 pub struct BitPlace {
     pub word: usize,

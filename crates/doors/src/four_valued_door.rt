@@ -16,7 +16,7 @@ const CHOOSING: u64 = 2;
 
 const IDLE: u64 = 3;
 
-// From arm j to the next: the group is read again at j + 1, and after the last arm the section is free.
+// The position after index j: the first waiting place at j + 1, or inside after the last arm.
 fn next_arm(n: u8, j: u8) -> FourValued
     ensures { result ≡ onward n j }
 {

@@ -9,12 +9,12 @@ ghost use Rattle.gate_model.specs.Table.{Table};
 use gate_model::Phase;
 use gate_model::access::Access;
 
-/// A door, by the positions that an arm has in it: a gate keeps one in the record of each arm.
+/// A door, as the type of its positions: a gate keeps a position in the record of each arm.
 ///
 /// Whoever writes a door gives its table, the code of the table, and shows the laws at the end.
 /// How often an arm is passed follows from `phased` and `rules`; right of way and going inside a door shows by an argument of its own.
 pub trait Door: Copy {
-    // What the door does at each position.
+    // The table of the door; the code below is held to it.
     ghost table: { Table Self };
 
     /// Where an arm rests.
@@ -45,11 +45,12 @@ pub trait Door: Copy {
     fn access(self, i: u8, side: u64) -> Access
         ensures { result ≡ table.access i side self };
 
-    /// Where an arm of n with this side goes, having read the value. The position is rewritten in place.
+    /// Moves the position of an arm with this side on to the next one, by the value that its access read, in a gate of n arms.
+    /// 0 stands for a side that is missing, and for the value of an access that reads nothing.
     fn advance(&mut self, n: u8, side: u64, value: u64)
         ensures { self.new ≡ table.next n side value self.old };
 
-    /// The least highest value that a bank must have.
+    /// The least that a bank's highest value may be.
     fn needed() -> u64
         ensures { result ≡ table.needed };
 
@@ -58,12 +59,12 @@ pub trait Door: Copy {
         ensures is { result ≡ table.room n }
         ensures some { 1 ≤ result };
 
-    /// What making writes to register i: no more than every bank of a gate with arms takes.
+    /// What making writes to register i: `needed` at most, which every bank of a gate with arms takes.
     fn first(i: usize) -> u64
         ensures is { result ≡ table.first i }
         ensures fits { result ≤ table.needed };
 
-    /// Within how many rounds an arm that waits is inside, of n arms: what this door promises, 8n + 20 at most.
+    /// Within how many rounds a waiting arm is inside, in a gate of n arms: 8n + 20 at most.
     fn rounds(n: u8) -> usize
         ensures is { result ≡ table.rounds n }
         ensures few { result ≤ 8 * n + 20 };
@@ -77,10 +78,11 @@ pub trait Door: Copy {
     // Each call keeps the rules.
     ghost rules: { ShowsRules table };
 
-    // Two waiting arms are alike in right of way exactly if they read the same bit; each goes inside within the rounds above; and way tells right of way.
+    // Two waiting arms are alike in right of way exactly if they read the same bit; each goes inside within `rounds`; and the
+    // call `way` tells right of way.
     ghost way: { ShowsWay table };
 
-    // Each accepted step accesses one of the registers that the arms take, with a value that the bank takes.
+    // Each accepted step accesses one of the registers that the arms take; what it writes is `needed` at most.
     ghost accesses: { ShowsAccesses table };
 
     // A step of a doorway reads the group exactly where the table says that the bit is read, and there the arm gets its side.

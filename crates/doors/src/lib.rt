@@ -1,7 +1,7 @@
-//! The interface of a door, and the two doors behind it.
+//! The interface of a door, and the code of both doors.
 #![tactic(auto)]
 
-// What a door promises.
+// The trait that every door implements.
 mod interface;
 // Three registers of one bit for each arm.
 mod three_bit_door;

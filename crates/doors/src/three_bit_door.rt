@@ -30,7 +30,7 @@ fn flag(i: u8) -> usize
     3 * usize::from(i)
 }
 
-// From arm j to the next: the group is read again at j + 1, and after the last arm the section is free.
+// The position after index j: the first waiting place at j + 1, or inside after the last arm.
 fn next_arm(n: u8, j: u8) -> ThreeBits
     ensures { result ≡ onward n j }
 {

@@ -21,12 +21,12 @@ phase_of (Waiting j p) = P.W
 phase_of Inside = P.F
 phase_of (Leaving x) = P.X
 
--- the doorway's read of the bit
+-- whether the access is the doorway's read of the bit: at Read
 abbrev pub reads : FourValued → Bool
 reads (Doorway Read) = true
 reads p = false
 
--- the first exit step has been made at the last place of the exit
+-- whether an arm has made its first exit step: at Rest
 abbrev pub is_turned : FourValued → Bool
 is_turned (Leaving Rest) = true
 is_turned p = false
@@ -36,7 +36,7 @@ abbrev pub index_of : FourValued → ℕ
 index_of (Waiting j p) = j
 index_of p = 0
 
--- the state of an arm, in the register of its number, is its side, or tells that it chooses or is idle
+-- the state of arm i is the value of register i: its side, or choosing, or idle
 abbrev pub choosing : ℕ
 choosing = 2
 
@@ -51,7 +51,7 @@ read_by j W.Side = j
 read_by j W.SideAgain = j
 read_by j W.GroupAgain = group
 
--- the one access of arm i with a side
+-- the one access of arm i, with its side as a number, at a position
 abbrev pub access_of : ℕ → ℕ → FourValued → Access
 access_of i side (Doorway Choose) = A.Write i choosing
 access_of i side (Doorway Read) = A.Read group
@@ -65,7 +65,7 @@ access_of i side p = A.Nothing
 abbrev pub onward : ℕ → ℕ → FourValued
 onward n j = if nat_lt j n then Waiting (j + 1) W.Group else Inside
 
--- where a waiting arm of n with a side goes, having read v
+-- the next position of a waiting arm that has read v, in a gate of n arms
 abbrev pub next_place : ℕ → ℕ → ℕ → ℕ → Place → FourValued
 next_place n side v j W.Group = if v == side then Waiting j W.Choosing else Inside
 next_place n side v j W.Choosing = if v == choosing then Waiting j W.Choosing else Waiting j W.Side
@@ -73,7 +73,7 @@ next_place n side v j W.Side = if v == (1 - side) then Waiting j W.SideAgain els
 next_place n side v j W.SideAgain = if v == (1 - side) then Waiting j W.GroupAgain else onward n j
 next_place n side v j W.GroupAgain = if v == side then Waiting j W.SideAgain else onward n j
 
--- where an arm goes, having read v
+-- the next position of an arm that has read v, in a gate of n arms
 abbrev pub next_of : ℕ → ℕ → ℕ → FourValued → FourValued
 next_of n side v (Doorway Choose) = Doorway Read
 next_of n side v (Doorway Read) = Doorway Tell

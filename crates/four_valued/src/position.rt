@@ -14,12 +14,13 @@ pub enum Doorway {
 pub enum Place {
     /// Reads the group.
     Group,
-    /// Reads the state of the arm that it looks at, until that one does not choose.
+    /// Reads the state of the arm that it looks at, again and again while that one chooses.
     Choosing,
-    /// Reads the state once more.
+    /// Reads that state again, once.
     Side,
-    /// Reads the state and the group in turn.
+    /// Reads that state again; an arm that must wait goes on to `GroupAgain`.
     SideAgain,
+    /// Reads the group again; an arm that must wait goes back to `SideAgain`.
     GroupAgain,
 }
 
@@ -32,7 +33,7 @@ pub enum Exit {
     Rest,
 }
 
-/// Where an arm stands at the four-valued door. A waiting arm has the index of the arm that it looks at, from 1, and its place.
+/// The position of an arm at the four-valued door. A waiting arm's has the index of the arm that it looks at, from 1, and its place.
 #[derive(Clone, Copy, Debug, PartialEq, Eq)]
 pub enum FourValued {
     Idle,

@@ -16,7 +16,7 @@ pub unless_both : {X : Type 0} (r : Option Refusal) (new old : X) (P : X → Typ
 unless_both None new old P h g = h refl
 unless_both (Some r) new old P h g = g
 
--- the same, of what tells that too
+-- the same of a P that is told too whether the call was accepted
 pub by_answer : {X : Type 0} (r : Option Refusal) (new old : X) (P : X → Bool → Type 0) → (r ≡ None → P new true) → P old false → P (unless r new old) (no_refusal r)
 by_answer None new old P h g = h refl
 by_answer (Some r) new old P h g = g

@@ -27,7 +27,7 @@ ends_doorway w m m' = at P.D (m.arms w) && at P.W (m'.arms w)
 abbrev pub goes_inside : ℕ → Meaning → Meaning → Bool
 goes_inside b m m' = at P.W (m.arms b) && at P.F (m'.arms b)
 
--- from the rules, with the arm before and after
+-- what the rules say of the arm's stage a before a call and a' after it, as one change
 module _ (bit bit' : Bool) (arms : ℕ → Stage) where
   put : (a a' : Stage) → Follows a a'
       → ((t : Bool) → a ≡ coming → a' ≡ read t → t ≡ bit)
@@ -51,7 +51,7 @@ change_of m m' i k = record {
   frame = k.own_arm_only;
 }
 
--- and back
+-- and the rules from such a change
 module _ (bit : Bool) (arms : ℕ → Stage) where
   follows : (a a' : Stage) (b' : Bool) → Goes bit arms a a' b' → Follows a a'
   follows a a' b' rests = R.stays

@@ -19,9 +19,9 @@ pub mod Changes
 pub mod Meant
 -- each doorway reads the bit once
 pub mod Doorways
--- who goes inside within so many rounds does so within more
+-- an arm that goes inside within k rounds goes inside within more
 pub mod Sooner
--- a step: put together, touching one register, which is there
+-- a step: put together; it touches one register, which the bank has
 pub mod Steps
 pub mod Spared
 pub mod Makeable

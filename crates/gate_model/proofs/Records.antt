@@ -34,7 +34,7 @@ module _ {At : Type 0} (door : Table At) (s : State At) where
     other_record : (i v : ℕ) (r : Arm At) → 1 ≤ i → 1 ≤ v → i ≢ v → arm_at door (with_arm i r s) v ≡ arm_at door s v
     other_record i v r lo vlo ne = get_or-set_other s.arms (i - 1) (v - 1) r (no_arm door) (λ e. ne (omega (arith, e)))
 
-    -- the tally of a step leaves what is seen
+    -- the tally of a step changes no more than rows and notes
     step_seen : (i v : ℕ) → SameButRow (arm_at door (stepped door i s) v) (arm_at door (with_arm i (arm_after door s i) s) v)
     step_seen i v = (tallied_table door (i - 1) (phase_at door s i) (door.phase (arm_after door s i).position) (set s.arms (i - 1) (arm_after door s i))).0 (v - 1)
 

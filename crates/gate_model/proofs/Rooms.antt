@@ -14,7 +14,7 @@ seam : (xs ys : List ℕ) (i y v : ℕ) → length xs ≡ i → set (xs ++ y ∷
 seam xs ys i y v e = ap (λ k. set (xs ++ y ∷ ys) k v) (sym e) ∙ (set-append_seam xs y ys v ∙ sym (append_assoc xs (v ∷ []) ys))
 
 module _ {At : Type 0} (door : Table At) where
-  -- the search from above
+  -- the largest arm count that has room, found by going down one by one
   pub largest_none : (len n : ℕ) → n ≡ 0 → largest door len n ≡ n
   unfolding largest
   largest_none len n e = rw e

@@ -1,4 +1,4 @@
--- What so many rounds do, more rounds do too.
+-- A number of rounds that takes an arm inside is enough as any larger number too.
 use Rattle.std.proofs.Common.{◌≡◌, ℕ, zero, suc, ◌+◌, ◌*◌, ◌≤◌, ⊎_elim, List, [], ◌∷◌, ◌++◌, inl, inr, sym, refl, ap, ◌∙◌, subst, arith}
 use Rattle.std.proofs.lemmas.List.{append_assoc}
 use Rattle.gate_model.specs.States.{State, is_arm}
@@ -29,13 +29,13 @@ module _ {At : Type 0} (door : Table At) where
       let x = fewer_rounds k more (omega arith) (run door s round) later rs in
       (round ++ x.0, x.1, q ∙ (ap (λ y. round ++ y) x.2 ∙ sym (append_assoc round x.0 x.1)), (round, x.0, refl, moves, x.3))
 
-  -- so who goes inside within k rounds goes inside within more
+  -- so an arm that goes inside within k rounds goes inside within more
   pub inside_more : (k more : ℕ) → k ≤ more → (s : State At) → InsideWithin door k s → InsideWithin door more s
   inside_more k more h s inside w wait further rs =
       let x = fewer_rounds k more h s further rs in
       subst (GoesInside door w s) (sym x.2) (goes_left w x.0 x.1 s (inside w wait x.0 x.3))
 
-  -- where an arm waits there is one
+  -- a gate where an arm waits has an arm
   pub some_arm : (s : State At) (w : ℕ) → Waits door s w → 1 ≤ s.n
   some_arm s w wait = let x = arm_in s w (and_T (is_arm s w) (is_in door P.W s w) wait).0 in omega (arith, x.0, x.1)
 

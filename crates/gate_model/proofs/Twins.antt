@@ -28,7 +28,7 @@ use Rattle.gate_model.proofs.Spared.{arms_having_read}
 abbrev pub SameUpTo : ℕ → List ℕ → List ℕ → Type 0
 SameUpTo k regs other = (q : ℕ) → q < k → get_or other q 0 ≡ get_or regs q 0
 
--- after an access that both banks take
+-- the same after an access that both banks take
 regs_same : {At : Type 0} (s t : State At) (a : Access) (k : ℕ) → T (can_make s a) → T (can_make t a) → SameUpTo k s.regs t.regs
     → SameUpTo k (regs_after s.high s.regs a) (regs_after t.high t.regs a)
 regs_same s t a k m n same q l = let e = same q l in grind (arith, nat_tests, get_or-set_same, get_or-set_other)
@@ -41,13 +41,13 @@ module _ {At : Type 0} (door : Table At) where
     pub arms : t.arms ≡ s.arms
     pub registers : 1 ≤ s.n → SameUpTo (door.room s.n) s.regs t.regs
 
-  -- and each came from a making
+  -- the same, where a making and calls lead to each
   pub record Twins (s t : State At) : Type 0 where
     pub same : Same s t
     pub origin : Origin door s
     pub other : Origin door t
 
-  -- just made
+  -- of two gates just made
   cleared_at : (k q : ℕ) (regs : List ℕ) → q < k → get_or (cleared door k regs) q 0 ≡ get_or (map door.first (range_with_len 0 k)) q 0
   cleared_at k q regs l = get_or_append_left (map door.first (range_with_len 0 k)) (drop k regs) 0 q (omega (arith, length-map-range_with_len door.first 0 k))
 
@@ -72,7 +72,7 @@ module _ {At : Type 0} (door : Table At) where
   pub same_refusal : (s t : State At) (c : Call) → Same s t → refusal_of door t c ≡ refusal_of door s c
   same_refusal s t c h = let number = h.number in let n = h.n in let arms = h.arms in grind arith
 
-  -- what is done is the same
+  -- an accepted call leaves them the same
   moved_same : (f : Arm At → Arm At) (s t : State At) (i : ℕ) → Same s t → Same (with_arm i (f (arm_at door s i)) s) (with_arm i (f (arm_at door t i)) t)
   moved_same f s t i h = record {
     number = h.number;

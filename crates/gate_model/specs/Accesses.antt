@@ -17,7 +17,7 @@ can_make s Nothing = false
 can_make s (Read q) = nat_lt q (length s.regs)
 can_make s (Write q v) = can_hold s.high s.regs q v
 
--- an access of one of the registers that n arms take, which writes no more than every bank of a gate with arms takes
+-- the access is of one of the registers that n arms take; it writes at most needed, which every bank of a gate with arms takes
 abbrev pub InRoom : {At : Type 0} → Table At → ℕ → Access → Type 0
 InRoom door n Nothing = ⊥
 InRoom door n (Read q) = q < door.room n
@@ -27,15 +27,15 @@ InRoom door n (Write q v) = (q < door.room n) × (v ≤ door.needed)
 abbrev pub ShowsAccesses : {At : Type 0} → Table At → Type 0
 ShowsAccesses door = Always door (λ start past s. (i : ℕ) → T (accepted door s (step i)) → InRoom door s.n (access_at door s i))
 
--- the register that an access writes is not q
+-- the access does not write register q
 abbrev pub Spares : Access → ℕ → Type 0
 Spares (Write r v) q = q ≢ r
 Spares x q = Unit {0}
 
--- from s to t by a step of arm i
+-- of a step of arm i that takes the gate from the state s to t
 pub record OneAccess {At : Type 0} (door : Table At) (s : State At) (i : ℕ) (t : State At) : Type 0 where
   -- the registers are as they were, but for the one that its access writes
   pub writes_one : (q : ℕ) → Spares (access_at door s i) q → slice_index t.regs q ≡ slice_index s.regs q
-  -- the records are the same whatever the registers hold, but for the one that its access reads
+  -- with other registers, but the same value in the one that its access reads, the records after the step are the same
   pub reads_one : (other : List ℕ) → value_read other (access_at door s i) ≡ value_read s.regs (access_at door s i)
       → (after door (with_table other s.arms s) (step i)).arms ≡ t.arms

@@ -6,7 +6,7 @@ use Rattle.gate_model.specs.Rules.{Always}
 use Rattle.gate_model.specs.declared.phase.Phase.{Phase}
 use Rattle.gate_model.specs.declared.phase.Phase.TheVariants as P
 
--- of an arm of n in a phase the index j is one of the n while it waits, else 0
+-- the index j of an arm in a phase, in a gate of n arms, is 1 to n while the arm waits, else 0
 abbrev pub IndexFits : ℕ → Phase → ℕ → Type 0
 IndexFits n P.W j = (1 ≤ j) × (j ≤ n)
 IndexFits n p j = j ≡ 0

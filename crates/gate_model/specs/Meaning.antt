@@ -1,4 +1,4 @@
--- What a gate means, whatever its door: the bit, and each arm's phase and side, and whether a leaving arm has made its first exit step.
+-- What a gate means, whatever its door: the bit, each arm's phase and side, and whether a leaving arm has made its first exit step.
 use Rattle.std.specs.Prelude.{ℕ, Bool, true, false, if◌then◌else◌, not, Some, None, Option, ◌==◌}
 use Rattle.gate_model.specs.Phases.{same_phase}
 use Rattle.gate_model.specs.Table.{Table}
@@ -9,17 +9,18 @@ use Rattle.gate_model.specs.declared.call.Call.TheVariants.{Begin as begin, Step
 use Rattle.gate_model.specs.declared.phase.Phase.{Phase}
 use Rattle.gate_model.specs.declared.phase.Phase.TheVariants as P
 
--- two bits are the same
+-- whether two bits are the same
 abbrev pub same_bit : Bool → Bool → Bool
 same_bit true b = b
 same_bit false b = not b
 
--- an arm: I; D before it has read the bit; D with a side; W; F; X before and after the first exit step
+-- the stage of an arm: resting, in I; coming, in D, its side missing; read, in D, with a side; waiting, in W; inside, in F;
+-- leaving, in X, before its first exit step; turned, in X, after it
 pub data Stage : Type 0 where
   resting coming : Stage
   read waiting inside leaving turned : Bool → Stage
 
--- whether an arm has side t
+-- whether an arm at a stage has side t
 abbrev pub has : Bool → Stage → Bool
 has t resting = false
 has t coming = false
@@ -29,6 +30,7 @@ has t (inside s) = same_bit t s
 has t (leaving s) = same_bit t s
 has t (turned s) = same_bit t s
 
+-- the phase of a stage
 abbrev pub phase : Stage → Phase
 phase resting = P.I
 phase coming = P.D
@@ -38,26 +40,30 @@ phase (inside s) = P.F
 phase (leaving s) = P.X
 phase (turned s) = P.X
 
+-- whether a stage is in phase p
 abbrev pub at : Phase → Stage → Bool
 at p a = same_phase (phase a) p
 
--- the bit, and each arm
+-- the bit, and the stage of each arm, by its number
 pub record Meaning : Type 0 where
   pub bit : Bool
   pub arms : ℕ → Stage
 
--- what an arm of a gate means, by its phase, whether it has made its first exit step, and its side
+-- a bit or a side that is a number, as a truth value
 abbrev pub as_bit : ℕ → Bool
 as_bit v = v == 1
 
+-- the stage of an arm in its doorway, by its side
 abbrev pub door_stage : Option ℕ → Stage
 door_stage None = coming
 door_stage (Some v) = read (as_bit v)
 
+-- the stage of a leaving arm with side t, by whether it has made its first exit step
 abbrev pub exit_stage : Bool → Bool → Stage
 exit_stage false t = leaving t
 exit_stage true t = turned t
 
+-- the stage of an arm of a gate, by its phase, whether it has made its first exit step, and its side
 abbrev pub stage_of : Phase → Bool → Option ℕ → Stage
 stage_of P.I gone o = resting
 stage_of P.D gone o = door_stage o
@@ -65,7 +71,7 @@ stage_of P.W gone o = waiting (as_bit (side_of o))
 stage_of P.F gone o = inside (as_bit (side_of o))
 stage_of P.X gone o = exit_stage gone (as_bit (side_of o))
 
--- the arm that a call names
+-- the arm that a call names; of a tally the one whose row is read
 abbrev pub arm_of : Call → ℕ
 arm_of (begin i) = i
 arm_of (step i) = i

@@ -19,12 +19,12 @@ abbrev pub regs_after : ℕ → List ℕ → Access → List ℕ
 regs_after high regs (Write q v) = written high regs q v
 regs_after high regs x = regs
 
--- the memory of the bank after an access: what is written is written once, and nothing else is
+-- the memory of the bank after an access: a write is asked of the bank once, and a read asks for none
 abbrev pub memory_after : Lent → Access → Lent
 memory_after memory (Write q v) = touched memory q v
 memory_after memory x = memory
 
--- whether a write of v that replaced a value, or none where it was refused, changed it
+-- whether a write of v changed the value; what it replaced is given, none where the bank refused it
 abbrev pub changed : ℕ → Option ℕ → Bool
 changed v (Some former) = not (former == v)
 changed v None = false

@@ -1,4 +1,4 @@
--- The rules of the meaning: what a call of arm i does to it, from m to m'. Each door shows them, from every making on.
+-- The rules that each door shows: what a call of arm i may make of the meaning of a gate, which is m before it and m' after it.
 use Rattle.std.specs.Prelude.{◌≡◌, ℕ, ◌≤◌, Bool, not, T, ◌≢◌, List}
 use Rattle.gate_model.specs.Making.{Making}
 use Rattle.gate_model.specs.Table.{Table}
@@ -9,8 +9,8 @@ use Rattle.gate_model.specs.Meaning.{same_bit, Stage, resting, coming, read, wai
 use Rattle.gate_model.specs.declared.call.Call.{Call}
 use Rattle.gate_model.specs.declared.phase.Phase.TheVariants as P
 
--- the phases of an arm follow one another as I, D, W, F, X, I;
--- each doorway gives the arm its side exactly once, and it is kept to the last exit step; Doorways.antt says at which access
+-- the phases of an arm follow one another as I, D, W, F, X, I; each doorway gives the arm its side exactly once, and the arm
+-- keeps it to its last exit step. Doorways.antt says at which access it gets the side
 pub data Follows : Stage → Stage → Type 0 where
   stays : {a : Stage} → Follows a a
   begins : Follows resting coming
@@ -54,7 +54,7 @@ pub record Keeps (m m' : Meaning) (i : ℕ) : Type 0 where
   pub enters_free : EntersFree m m' i
   pub only_exit_turns : OnlyExitTurns m m' i
 
--- what Q says of every state that a making and calls lead to: of the state made, the calls, and the state
+-- Q holds of every making and every list of calls: of the state just made, the calls, and the state that they lead to
 abbrev pub Always : {At : Type 0} → Table At → (State At → List Call → State At → Type 0) → Type 0
 Always {At} door Q = (making : Making) (past : List Call) →
     let start : State At = made door making in
@@ -64,7 +64,7 @@ Always {At} door Q = (making : Making) (past : List Call) →
 abbrev pub ShowsRules : {At : Type 0} → Table At → Type 0
 ShowsRules door = Always door (λ start past s. (c : Call) → Keeps (meaning_of door s) (meaning_of door (after door s c)) (arm_of c))
 
--- the phases of the positions where an arm rests, where a begun visit starts, and where an arm that leaves goes
+-- an arm rests in I, a begun visit starts in D, and an arm that leaves goes to X
 pub record Phased {At : Type 0} (door : Table At) : Type 0 where
   pub idle : door.phase door.idle ≡ P.I
   pub entry : door.phase door.entry ≡ P.D
@@ -75,5 +75,6 @@ pub record AreBits {At : Type 0} (door : Table At) (s : State At) : Type 0 where
   pub bit : bit_of s ≤ 1
   pub sides : (i : ℕ) → T (is_arm s i) → side_of (arm_at door s i).side ≤ 1
 
+-- the door shows it, whatever was called before
 abbrev pub ShowsBits : {At : Type 0} → Table At → Type 0
 ShowsBits door = Always door (λ start past s. AreBits door s)

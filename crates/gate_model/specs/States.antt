@@ -9,8 +9,8 @@ use Rattle.gate_model.specs.Making.{Making, made_memory, made_regs, arms_of}
 use Rattle.gate_model.specs.declared.arm.Arm.{Arm}
 use Rattle.gate_model.specs.declared.phase.Phase.{Phase}
 
--- memory: the memory that the bank writes; high: the highest value of a register; number: the gate's;
--- n: how many arms; regs: the values of the bank; arms: the records, arm i at i - 1, each at a position of the door;
+-- memory: the memory that the bank writes; high: the highest value of a register; number: the gate number;
+-- n: how many arms; regs: the values of the bank; arms: the records, that of arm i at index i - 1, also past arm n;
 -- turns: how often the bit turned since the making
 pub record State (At : Type 0) : Type 0 where
   pub memory : Lent
@@ -25,20 +25,20 @@ module _ {At : Type 0} where
   abbrev pub is_arm : State At → ℕ → Bool
   is_arm s i = nat_le 1 i && nat_le i s.n
 
-  -- other registers and records
+  -- the state s with these registers and records
   abbrev pub with_table : List ℕ → List (Arm At) → State At → State At
   with_table regs arms s = record s { regs = regs; arms = arms }
 
-  -- another record for arm i
+  -- the state s with a as the record of arm i
   abbrev pub with_arm : ℕ → Arm At → State At → State At
   with_arm i a s = with_table s.regs (slice_set s.arms (i - 1) a) s
 
-  -- the group bit; 0 where the gate has no arms
+  -- the bit, which is the value of register 0; 0 where the gate has no arms
   abbrev pub bit_of : State At → ℕ
   bit_of s = if s.n == 0 then 0 else slice_index s.regs group
 
 module _ {At : Type 0} (door : Table At) where
-  -- a gate just made over a bank
+  -- the state of a gate just made
   abbrev pub made : Making → State At
   made making =
       record {

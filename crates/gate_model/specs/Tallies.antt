@@ -1,4 +1,4 @@
--- What each arm lost while it waited: how often each other went inside meanwhile, and which arms were idle when its wait began.
+-- What each arm lost while it waited: how often each other arm went inside meanwhile, and which arms were idle when its wait began.
 use Rattle.std.specs.Prelude.{ℕ, ◌+◌, min, Bool, if◌then◌else◌, List, map, replicate, slice_index, slice_index_or, slice_set}
 use Rattle.gate_model.specs.Limits.{arm_limit, tally_limit}
 use Rattle.gate_model.specs.Phases.{same_phase}
@@ -8,7 +8,7 @@ use Rattle.gate_model.specs.declared.arm.Arm.{Arm}
 use Rattle.gate_model.specs.declared.phase.Phase.{Phase}
 use Rattle.gate_model.specs.declared.phase.Phase.TheVariants as P
 
--- a record with another row and other notes
+-- the record a with row r and notes t
 abbrev pub with_row : {At : Type 0} → List ℕ → List Bool → Arm At → Arm At
 with_row r t a = record a { row = r; notes = t }
 
@@ -19,16 +19,16 @@ module _ {At : Type 0} (door : Table At) where
   abbrev pub is_waiting : Arm At → Bool
   is_waiting a = same_phase (door.phase a.position) P.W
 
-  -- a record once the arm at b went inside: where its arm waits it adds 1 for it, up to the limit
+  -- the record a after the arm at index b went inside: if the arm of a waits, its row counts 1 more at b, up to the limit
   abbrev pub counted : ℕ → Arm At → Arm At
   counted b a = if is_waiting a then with_row (slice_set a.row b (min (slice_index a.row b + 1) tally_limit)) a.notes a else a
 
-  -- a row of 0s, and notes of the arms that are idle
+  -- the records after the arm at index k ended its doorway: its row is 0, and its notes tell which arms are idle
   abbrev pub row_started : ℕ → List (Arm At) → List (Arm At)
   row_started k arms = slice_set arms k (with_row (replicate arm_limit 0) (map is_idle arms) (slice_index_or arms k (no_arm door)))
 
-  -- the records once the arm at k went from phase p to phase q:
-  -- at the end of its doorway its row starts, and when it goes inside the arms that wait count it; the rest of its visit leaves all rows
+  -- the records after a step by which the arm at index k went from phase p to phase q: at its last doorway step its row starts,
+  -- at the step by which it goes inside each waiting arm counts it, and any other step leaves all rows and notes
   abbrev pub tallied : ℕ → Phase → Phase → List (Arm At) → List (Arm At)
   tallied k P.D P.W arms = row_started k arms
   tallied k P.W P.F arms = map (counted k) arms

@@ -10,21 +10,21 @@ use Rattle.gate_model.specs.History.{step_of}
 use Rattle.gate_model.specs.declared.call.Call.{Call}
 
 module _ {At : Type 0} (door : Table At) where
-  -- a call that changes register 0
+  -- whether a call changes register 0
   abbrev pub turns : State At → Call → Bool
   turns s c = not (slice_index (after door s c).regs group == slice_index s.regs group)
 
-  -- how many calls of the list do
+  -- how many calls of the list change register 0
   abbrev pub turns_in : State At → List Call → ℕ
   turns_in s [] = 0
   turns_in s (c ∷ cs) = (if turns s c then 1 else 0) + turns_in (after door s c) cs
 
-  -- and how many of them are steps of arm b
+  -- how many calls of the list change register 0 and are steps of arm b
   abbrev pub turns_by : ℕ → State At → List Call → ℕ
   turns_by b s [] = 0
   turns_by b s (c ∷ cs) = (if turns s c && step_of b c then 1 else 0) + turns_by b (after door s c) cs
 
--- the turns of a gate in the state s that was start and had the calls of past
+-- the turns of a gate in the state s; start is its state when it was just made, and past the calls since
 pub record TurnsTold {At : Type 0} (door : Table At) (start : State At) (past : List Call) (s : State At) : Type 0 where
   -- they are the calls that changed register 0
   pub count : s.turns ≡ turns_in door start past

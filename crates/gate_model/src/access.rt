@@ -34,7 +34,7 @@ pub fn value_at<B: Bank>(bank: &B, i: usize) -> u64
 }
 
 impl Access {
-    /// Makes the access and no other, and answers what came of it. What the bank refuses to write changes nothing.
+    /// Makes the access and no other, and answers what came of it. A write that the bank refuses changes nothing.
     pub fn make<B: Bank>(self, bank: &mut B) -> Outcome
         ensures value { result.value ≡ value_read (B.values bank.old) self }
         ensures turned { result.turned ≡ turns_bit B.HIGHEST (B.values bank.old) self }

@@ -4,12 +4,12 @@ ghost use Rattle.gate_model.specs.Arms.{side_of, has_side};
 /// How many arms a gate has at most.
 pub const ARM_LIMIT: usize = 100;
 
-/// What the gate keeps of one arm, at a position of its door. Arm i of a gate stands at place i - 1 of its table,
-/// and so do its count and its note in a row.
+/// The record that a gate keeps of one arm; P: the positions of the gate's door. The record of arm i has index i - 1 among
+/// the records, and what a row and its notes tell of arm i has index i - 1 there.
 #[derive(Clone, Copy)]
 pub struct Arm<P> {
     pub position: P,
-    /// The bit read in the doorway, from then to the end of the visit: 0 or 1.
+    /// The bit that the arm read in its doorway, 0 or 1, up to its last exit step; else none.
     pub side: Option<u64>,
     /// How many visits were begun, 1,000,000,000 at most.
     pub visits: u32,

@@ -8,9 +8,9 @@ pub mod phase;
 pub mod access;
 // What a gate keeps of each arm.
 pub mod arm;
-// Why a gate says no.
+// Why a gate refuses a call.
 pub mod refusal;
-// The calls of a gate.
+// The calls that a list of calls can have.
 pub mod call;
 
 pub use call::Call;

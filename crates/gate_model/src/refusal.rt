@@ -4,10 +4,10 @@ ghost use Rattle.gate_model.specs.Refusals.{refusal_number};
 use std::error::Error;
 use std::fmt;
 
-/// Why the gate says no. A refused call alters nothing.
+/// Why a gate refuses a call. A refused call alters nothing.
 #[derive(Clone, Copy, Debug, PartialEq, Eq)]
 pub enum Refusal {
-    /// The gate has no such arm.
+    /// The gate has no such arm: it is 0, or above the arm count.
     NoArm,
     /// Begin: the arm is not idle.
     Busy,
@@ -15,13 +15,13 @@ pub enum Refusal {
     Idle,
     /// Step: the arm is inside.
     Inside,
-    /// Begin: the idle arm has had its last visit.
+    /// Begin: the arm is idle and has begun 1,000,000,000 visits.
     Worn,
-    /// Admit: the arm is not inside. Way: it does not wait.
+    /// Admit and let_go: the arm is not inside. Way: it does not wait.
     Elsewhere,
-    /// Admit: the arm's pass is out already.
+    /// Admit and let_go: the arm's pass is out already.
     Taken,
-    /// Leave: the gate does not know the pass.
+    /// Leave: the pass is of another gate, or its arm's pass is not out.
     StrangePass,
 }
 

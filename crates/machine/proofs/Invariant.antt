@@ -70,7 +70,7 @@ module _ (n : ℕ) (β : Bool) (arms : ℕ → Stance) (range : Ranged n arms) w
   act_own step δ pos (waits s j p) d h = wait_own δ s j p h
   act_own m δ pos a d h = grind (arith, range)
 
--- what a move can do to its arm, as the others see it: a side it has it had, and it chooses only if it did; or the side is the group
+-- what a move makes of an arm: where it has a side after the move, it had it before, and chooses only if it did before; or the side is the group
 abbrev pub NothingNew : Bool → Stance → Stance → Type 0
 NothingNew β a a' = (t : Bool) → T (has t a') → (T (has t a) × (T (choosing a') → T (choosing a))) ⊎ T (same_bit t β)
 
@@ -80,7 +80,7 @@ act_nothing_new m δ n β arms a t h = grind arith
 pub moved_nothing_new : (g : Machine) (m : Move) (i k : ℕ) → NothingNew g.group (g.arms k) ((moved g m i).arms k)
 moved_nothing_new g m i = with_stance_each (λ k a. NothingNew g.group (g.arms k) a) g.arms i _ (act_nothing_new m g.kind g.n g.group g.arms (g.arms i)) (λ k t x. inl (x, λ c. c))
 
--- the others' facts last while the group does
+-- what holds of the other arms goes on to hold while the group stays the same
 keep : (n : ℕ) (β : Bool) (arms arms' : ℕ → Stance) → ((k : ℕ) → NothingNew β (arms k) (arms' k)) → (a : Stance) → Own n β arms a → Own n β arms' a
 keep n β arms arms' seen a h = grind (arith, seen)
 
@@ -89,7 +89,7 @@ act_home step δ n β arms i (waits s j W1) e h = grind arith
 act_home step δ n β arms i (waits s j p) e h = grind arith
 act_home m δ n β arms i a e h = grind arith
 
--- what another stance of arm i and another group have to keep
+-- the invariant with another stance of arm i and another group, from what has to hold of these
 inv_to : (g : Machine) → Inv g → (b : Bool) (i : ℕ) (a : Stance) → 1 ≤ i → i ≤ g.n → Home i a → Own g.n b (with_stance g.arms i a) a → ((k : ℕ) → Own g.n b (with_stance g.arms i a) (g.arms k)) → Inv (moved_to g b i a)
 inv_to g inv b i a lo hi home own others = record {
   home = with_stance_each Home g.arms i a home inv.home;
@@ -106,7 +106,7 @@ inv_still g inv m i lo hi d =
     (last _ (act_own g.n g.group g.arms inv.range m g.kind (omega arith) (g.arms i) d (inv.own i))) (λ k. last (g.arms k) (inv.own k))
 
 module _ (n : ℕ) (β t : Bool) (arms : ℕ → Stance) (i : ℕ) (e : arms i ≡ x1 t) (free : Free β arms t) where
-  -- x1 t and x2 t look the same to the others
+  -- an arm that goes from x1 t to x2 t gets no other side, and does not come to choose
   look_back : (k : ℕ) (u : Bool) → T (has u (with_stance arms i (x2 t) k)) → T (has u (arms k)) × (T (choosing (with_stance arms i (x2 t) k)) → T (choosing (arms k)))
   look_back k u = let r = eqb→eq k i in grind (arith, nat_tests)
 

@@ -24,7 +24,7 @@ phase (x1 s) = P.X
 phase (x2 s) = P.X
 phase d = P.D
 
--- by phase
+-- whether an arm is in a phase
 abbrev pub at : Phase → Stance → Bool
 at p a = same_phase (phase a) p
 
@@ -109,7 +109,7 @@ pub outcome : (P : Stance → Type 0) (δ : Kind) (n : ℕ) (β : Bool) (b : Sta
     → (j : ℕ) (p : WaitingPlace) → P (step_waiting δ n β b s j p)
 outcome P δ n β b s on in' j p = grind (arith, on)
 
--- the second kind comes to d5 from d2; at d3 and d4, where it never is, it would go on as at d5
+-- the step of an arm; of the four-valued kind it leads from d2 to d5, and at d3 and d4, where an arm of this kind never is, it is that of d5
 abbrev pub step_arm : Kind → ℕ → Bool → (ℕ → Stance) → Stance → Stance
 step_arm δ n β arms (d1 g) = d2 g
 step_arm three_bits n β arms (d2 g) = d3 β g

@@ -11,12 +11,12 @@ use Rattle.machine.proofs.Potential.{queue, held, queue_act, queue_chooses, pote
 use Rattle.machine.proofs.Falls.{fit, away, other_le, held_falls, potential_own}
 use Rattle.machine.proofs.Rank.{free_none, free_after}
 
--- a move that takes arm b on is still to come, where due tells of which arms one is: its own; or that of the arm that it waits for at W2
+-- a move that brings arm b forward is still to come: its own, or that of the arm for which it waits at W2; due tells of which arms a move is to come
 pub data Owed (arms : ℕ → Stance) (due : ℕ → Type 0) (b : ℕ) : Type 0 where
   own : T (not (held arms (arms b))) → due b → Owed arms due b
   other : (u : Bool) (c : ℕ) → arms b ≡ waits u c W2 → T (choosing (arms c)) → due c → Owed arms due b
 
--- what the move m of arm i does about it: it was b's own; or i held b up, or comes to; or the same is still to come
+-- what the move m of arm i is to b: b's own; or that of the arm for which b waits at W2, which chooses before it or after; or neither, and one is still to come
 data Went (g : Machine) (m : Move) (i : ℕ) (due : ℕ → Type 0) (b : ℕ) : Type 0 where
   mine : b ≡ i → T (not (held g.arms (g.arms i))) → Went g m i due b
   frees : b ≢ i → (u : Bool) → g.arms b ≡ waits u i W2 → T (choosing (g.arms i) || choosing (act m g.kind g.n g.group g.arms (g.arms i))) → Went g m i due b
@@ -156,7 +156,7 @@ pub due_ends : (g : Machine) (w : ℕ) (s : Bool) (M : ℕ) → Due g w s M (λ 
 due_ends g w s M (foes one f) = (M - 1, omega arith, λ q k. ⊎_elim (λ l. omega arith) (λ x. absurd (none_owed g.arms k x)) (f q k))
 due_ends g w s M (self free x) = absurd (none_owed g.arms w x)
 
--- as other moves are to come, one for each that was
+-- the same with due', where a move of each arm of due is to come in due' too
 module _ (due due' : ℕ → Type 0) (on : (b : ℕ) → due b → due' b) where
   owed_same : (arms : ℕ → Stance) (b : ℕ) → Owed arms due b → Owed arms due' b
   owed_same arms b (own d x) = own d (on b x)

@@ -1,4 +1,4 @@
--- For how many rounds a waiting arm waits at most: its potential, while no arm with the other side holds it up; and what such an arm still has to do.
+-- For how many rounds a waiting arm waits at most: its potential, while no arm with the other side stops it; and what such an arm still has to do.
 use Rattle.std.proofs.Common.{◌≡◌, ℕ, ◌+◌, ◌-◌, ◌*◌, ◌≤◌, Bool, true, false, cond, not, ◌||◌, T, eqb, ltb, sym, subst, arith}
 use Rattle.std.proofs.lemmas.Bool.Decides.{nat_tests}
 use Rattle.gate_model.proofs.Bools.{same_bit}
@@ -26,11 +26,11 @@ abbrev pub may_choose_again : Bool → Stance → Bool
 may_choose_again β (d2 g) = false
 may_choose_again β a = not (has β a)
 
--- so for how many rounds at most an arm holds up those that look at it from W2
+-- so for how many rounds at most an arm keeps those waiting that look at it from W2
 abbrev pub queue : Kind → Bool → Stance → ℕ
 queue δ β a = choosing_left δ a + cond (may_choose_again β a) (whole δ) 0
 
--- a waiting arm at a place, where the arm at its index holds it up for h rounds: for how many rounds at most, while the group is not its side
+-- for how many rounds at most an arm at a place waits, while the group is not its side, where the arm at its index keeps it at W2 for h rounds
 abbrev pub quick : ℕ → WaitingPlace → ℕ
 quick h W1 = 1
 quick h W2 = 5 + h
@@ -43,7 +43,7 @@ abbrev pub quick_of : Kind → Bool → (ℕ → Stance) → Stance → ℕ
 quick_of δ β arms (waits u j p) = quick (queue δ β (arms j)) p
 quick_of δ β arms a = 0
 
--- and while it is its side s, for that index; o, the index is its own
+-- for how many rounds at most it stays at its index while the group is its side s; o: the index is its own
 abbrev pub slow : Kind → Bool → Bool → Stance → WaitingPlace → ℕ
 slow three_bits s o a W1 = cond o 3 8
 slow three_bits s o a W2 = 2 + cond (has (not s) a) 5 (queue three_bits s a)
@@ -56,12 +56,12 @@ slow four_valued s o a W2 = 2 + cond (has (not s) a) 3 (queue four_valued s a)
 slow four_valued s o a W5 = 2
 slow four_valued s o a p = cond (has (not s) a) 2 1
 
--- what the indices past j take, of n, for arm w
+-- for how many rounds at most arm w, of n, waits at the indices past j
 abbrev pub indices_ahead : Kind → ℕ → ℕ → ℕ → ℕ
 indices_ahead three_bits n w j = cond (ltb j w) (8 * (n - (j + 1)) + 11) (8 * (n - j) + 8)
 indices_ahead four_valued n w j = cond (ltb j w) (6 * (n - (j + 1)) + 9) (6 * (n - j) + 6)
 
--- for how many rounds a waiting arm waits at most while no arm has the other side: e, the group is its side
+-- for how many rounds at most a waiting arm waits while no arm has the other side; e: the group is its side
 abbrev pub rank : Kind → Bool → ℕ → ℕ → Bool → Stance → ℕ → WaitingPlace → ℕ
 rank δ true n w s a j p = indices_ahead δ n w j + slow δ s (eqb j w) a p
 rank δ false n w s a j p = quick (queue δ (not s) a) p
@@ -105,7 +105,7 @@ Fit β s a = Unit {0}
 pub turn_away : (m : Move) (β s : Bool) (a : Stance) → Fit β s a → T (same_bit (turn m β a) s) → T (same_bit β s)
 turn_away m β s a f h = grind arith
 
--- of an arm that moves: it holds the others up no longer than before, and less long if it chooses before or after
+-- of an arm that moves: it keeps the others waiting no longer than before, and less long if it chooses before or after
 module _ (δ : Kind) (n : ℕ) (β : Bool) (arms : ℕ → Stance) (s : Bool) where
   never_chooses : (b : Stance) (u : Bool) (j : ℕ) (p : WaitingPlace) → T (choosing (step_waiting δ n β b u j p)) → ⊥
   never_chooses b u = outcome (λ r. T (choosing r) → ⊥) δ n β b u (λ j p x. x) (λ x. x)
@@ -135,7 +135,7 @@ module _ (δ : Kind) (n : ℕ) (β : Bool) (arms : ℕ → Stance) (s : Bool) wh
 pub rank_turns : (δ : Kind) (e e' : Bool) (n w : ℕ) (s : Bool) (a : Stance) (j : ℕ) (p : WaitingPlace) → (T e' → T e) → rank δ e' n w s a j p ≤ rank δ e n w s a j p
 rank_turns δ e e' n w s a j p f = grind arith
 
--- a waiting arm's own step; k, it is not held up
+-- a waiting arm's own step; k: it is not at W2 of an arm that chooses
 module _ (δ : Kind) (n : ℕ) (β : Bool) (arms : ℕ → Stance) (u : Bool) (j : ℕ) where
   abbrev after : WaitingPlace → Stance
   after p = step_waiting δ n β (arms j) u j p
@@ -163,7 +163,7 @@ module _ (δ : Kind) (n : ℕ) (β : Bool) (arms : ℕ → Stance) (u : Bool) (j
   own_step w k p hi own c free true q = let t : T (same_bit β u) = subst T (sym q) tt in slow_step w k p hi t own c (λ x. free x t)
   own_step w k p hi own c free false q = let x = quick_is δ n w u arms (after p) in let y = quick_step (not u) k p (subst (λ b. T (not b)) (sym q) tt) c in omega arith
 
--- what an arm with the other side still has to do: no more than before, and less after its move if it was not held up
+-- what an arm with the other side still has to do: no more than before, and less after its move if it was not at W2 of one that chooses
 module _ (δ : Kind) (n : ℕ) (β : Bool) (arms : ℕ → Stance) (s : Bool) (q : T (same_bit β s)) where
   pub foe_act : (k : Bool) (m : Move) (a : Stance) → (T k → T (allowed m a) × T (not (held arms a))) → foe δ s arms (act m δ n β arms a) ≤ foe δ s arms a - cond k 1 0
   foe_act k step (waits u j p) c =

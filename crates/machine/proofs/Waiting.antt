@@ -14,7 +14,7 @@ Waiting s a = (j : ℕ) × (p : WaitingPlace) × (a ≡ waits s j p)
 pub only_steps : (m : Move) (a : Stance) → T (may_step a) → T (allowed m a) → m ≡ step
 only_steps m a k h = grind arith
 
--- what its phase says
+-- an arm in W waits with a side
 pub phase_waits : (a : Stance) → T (at P.W a) → (s : Bool) × Waiting s a
 phase_waits (waits s j p) h = (s, (j, p, refl))
 phase_waits a h = absurd h

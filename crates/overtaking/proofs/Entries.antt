@@ -75,7 +75,7 @@ module _ {At : Type 0} (door : Table At) where
     pub enters_shown : enters v (meaning_of door s) (meaning_of door (after door s c)) ≡ goes_inside door v s c
     enters_shown = shown_change P.W P.F ((λ t. absurd t), (λ t. absurd t)) (λ t. absurd t)
 
-    -- who waits after a call waited before it, or ended its doorway by it; who waited before it waits on, or went inside by it
+    -- an arm that waits after a call waited before it, or ended its doorway by it; one that waited before it waits on, or went inside by it
     pub waiting_call : ShowsRules door
         → (T (is_in door P.W (after door s c) v) → T (is_in door P.W s v) ⊎ T (ends_doorway door v s c))
         × (T (is_in door P.W s v) → T (is_in door P.W (after door s c) v) ⊎ T (goes_inside door v s c))

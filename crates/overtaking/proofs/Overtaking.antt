@@ -8,14 +8,15 @@ use Rattle.gate_model.proofs.Changes.{Goes, enters, turns, Change, ends_doorway,
 use Rattle.gate_model.specs.declared.phase.Phase.TheVariants as P
 use Rattle.gate_model.proofs.Bools.{same_bit, same_refl, same_trans}
 
--- who is inside: if an arm with side t is in F, or in X before its first exit step, then the bit is 1 - t or no arm has side 1 - t
+-- if an arm with side t is in F, or in X before its first exit step, then the bit is 1 - t or no arm has side 1 - t;
+-- after that step the bit is 1 - t
 abbrev pub Own : Bool → (ℕ → Stage) → Stage → Type 0
 Own bit arms (inside t) = Free bit arms t
 Own bit arms (leaving t) = Free bit arms t
 Own bit arms (turned t) = T (same_bit bit (not t))
 Own bit arms a = Unit {0}
 
--- facts last while the bit does, and sides come only from it
+-- Own goes on to hold while the bit stays the same, since an arm gets no side but the bit
 keep : (bit : Bool) (arms arms' : ℕ → Stage) → ((k : ℕ) (t : Bool) → T (has t (arms' k)) → T (has t (arms k)) ⊎ T (same_bit t bit)) → (a : Stage) → Own bit arms a → Own bit arms' a
 keep bit arms arms' seen a h = grind (arith, seen)
 
@@ -79,13 +80,13 @@ module _ (bit : Bool) (arms : ℕ → Stage) (w : ℕ) (s : Bool) (h : T (is_pas
   away a a' b' (turns {t = u}) o q = same_trans bit (not u) s (o w (w_side (not u) q)) q
   away a a' b' goes o q = q
 
-  -- what a call of b leaves, and what an entry of b uses up
+  -- no call of b raises how often it can still get past, and an entry of b lowers it
   left_goes : (a a' : Stage) (b' : Bool) → Goes bit arms a a' b' → Own bit arms a → (left (same_bit b' s) s a' ≤ left (same_bit bit s) s a) × (T (at P.W a && at P.F a') → left (same_bit b' s) s a' + 1 ≤ left (same_bit bit s) s a)
   left_goes a a' b' (enters {t = u} f) o = let x : T (same_bit (not u) s) → T (same_bit bit (not u)) = λ q. f w (w_side (not u) q) in grind arith
   left_goes a a' b' (turns {t = u}) o = let x : T (same_bit (not u) s) → T (same_bit bit (not u)) = λ q. o w (w_side (not u) q) in grind arith
   left_goes a a' b' goes o = grind arith
 
--- what is left of its own entry: 2 before it, so that it has none while it waits
+-- how many entries of its own are still to come, plus 1, so that its entries so far and this make 2
 abbrev pub itself : Stage → ℕ
 itself a = cond (at P.W a) 2 1
 
@@ -124,7 +125,7 @@ module _ (w b : ℕ) (m m' : Meaning) (i : ℕ) (c : Change m m' i) (own : Inv m
   pub still : (k : ℕ) → i ≢ k → m'.arms k ≡ m.arms k
   still k ne = c.frame k (λ z. ne (sym z))
 
-  -- who ends its doorway is the one that moves, so a resting arm rests on
+  -- a call moves one arm only, so another arm that is idle as w ends its doorway stays idle
   pub idle_stays : T (ends_doorway w m m') → T (at P.I (m.arms b)) → T (not (eqb b w)) → T (at P.I (m'.arms b))
   idle_stays t d ne = let x = still b in let y = still w in grind (arith, nat_tests)
 

@@ -25,11 +25,11 @@ room may a = cond (may && at P.F a) 1 0
 left_room : (e s may : Bool) (a : Stage) → (left e s a + room may a ≤ 2) × (T (at P.I a) → left e s a + room may a ≤ 1)
 left_room e s may a = (grind arith, λ h. grind arith)
 
--- an entry (N) makes room for one taking, and uses up more; F and F' tell whether the arm is inside before and after
+-- an entry (N) lowers r, how often the arm can still get past, and lets it take once more; F and F' tell whether it is inside before and after
 room_change : (r r' : ℕ) (N F F' may : Bool) → r' ≤ r → (T N → r' + 1 ≤ r) → (T F' → T F ⊎ T N) → r' + cond ((N || may) && F') 1 0 ≤ r + cond (may && F) 1 0
 room_change r r' N F F' may le less was = grind arith
 
--- who is inside after a call was inside before it, or has gone inside
+-- an arm that is inside after a call was inside before it, or goes inside by it
 inside_goes : (bit : Bool) (arms : ℕ → Stage) (a a' : Stage) (b' : Bool) → Goes bit arms a a' b' → T (at P.F a') → T (at P.F a) ⊎ T (at P.W a && at P.F a')
 inside_goes bit arms a a' b' goes h = grind arith
 
@@ -41,7 +41,7 @@ to_take w b m may s = remaining w b m s + room may (m.arms b)
 abbrev Taken : ℕ → ℕ → Meaning → ℕ → Bool → Bool → Type 0
 Taken w b m k o may = (s : Bool) → T (is_past s (m.arms w)) → (k + to_take w b m may s ≤ 2) × (T o → k + to_take w b m may s ≤ 1)
 
--- to take uses up what there was room for
+-- once b takes, it can take once less
 taken_now : (w b : ℕ) (m : Meaning) (k : ℕ) (o may mine : Bool) → (T mine → T (may && at P.F (m.arms b))) → Taken w b m k o may → Taken w b m (cond mine (k + 1) k) o (may && not mine)
 taken_now w b m k o may mine fit L s h = let x = L s h in grind arith
 

@@ -36,7 +36,7 @@ use Rattle.gate_model.proofs.Unaltered.{after_n, run_n}
 turned_so : (high : ℕ) (regs : List ℕ) (a : Access) → turns_bit high regs a ≡ not (eqb (get_or (regs_after high regs a) group 0) (get_or regs group 0))
 turned_so high regs a = grind (arith, nat_tests, get_or-set_same, get_or-set_other)
 
--- 1 from the beginning of a visit to its first exit step
+-- how often an arm may still turn the bit in its visit: 1 up to its first exit step, then 0
 abbrev owes : Stage → ℕ
 owes resting = 0
 owes (turned t) = 0
@@ -60,7 +60,7 @@ among k (Step i) = leb 1 i && leb i k
 among k c = false
 
 module _ {At : Type 0} (door : Table At) where
-  -- the count
+  -- the turns that the state counts
   call_turns : (s : State At) (c : Call) → (after door s c).turns ≡ s.turns + cond (turns door s c) 1 0
   call_turns s (Step i) = unless_both (refusal_of door s (Step i)) (stepped door i s) s
       (λ t. t.turns ≡ s.turns + cond (not (eqb (get_or t.regs group 0) (get_or s.regs group 0))) 1 0)

@@ -2,7 +2,7 @@
 //! how often the bit turns; and the law of fairness, put together.
 #![tactic(auto)]
 
-// The bounds, as calls whose contracts are the laws.
+// The bounds, each as the contract of a call that does nothing.
 mod bounds;
 
 pub use bounds::{passing_bound, reading_bound, taking_bound};

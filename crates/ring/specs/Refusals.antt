@@ -1,4 +1,4 @@
--- When a ring says no, by which number, and in which word.
+-- When a ring refuses, with which number, and which word that prints.
 use Rattle.std.specs.Prelude.{ℕ, codes, if◌then◌else◌, List, Ok, Err, Result}
 use Rattle.ring.specs.Spans.{has_room}
 use Rattle.ring.specs.declared.refusal.Refusal.{Refusal}

@@ -14,7 +14,7 @@ module _ {X : Type 0} where
   abbrev pub items : Held X → List X
   items r = laid r.span r.slots
 
-  -- an empty ring over memory that holds this
+  -- an empty ring over memory whose places hold slots
   abbrev pub emptied : ℕ → List X → Held X
   emptied memory slots = record { memory = memory; slots = slots; span = record { head = 0; count = 0 } }
 
@@ -26,7 +26,7 @@ module _ {X : Type 0} where
   abbrev pub with_item : X → Held X → List X
   with_item x r = if has_room r.span r.slots then items r ++ x ∷ [] else items r
 
-  -- the ring then: one place of its memory is written; a full one stays as it is
+  -- the ring once an item is put behind the others: one place of its memory is written; a full ring stays as it is
   abbrev pub put_in : X → Held X → Held X
   put_in x r = record r { slots = put_slots x r.span r.slots; span = put_span r.span r.slots }
 

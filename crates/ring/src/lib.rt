@@ -5,7 +5,7 @@
 mod ring;
 // Where its items lie in the memory, and what is done with them there.
 mod span;
-// Why a ring says no.
+// Why a ring refuses a call.
 mod refusal;
 
 pub use refusal::Refusal;

@@ -4,7 +4,7 @@ ghost use Rattle.ring.specs.Refusals.{refusal_number};
 use std::error::Error;
 use std::fmt;
 
-/// Why a ring says no. A refused call changes neither the ring nor its memory.
+/// Why a ring refuses a call. A refused call changes neither the ring nor its memory.
 #[derive(Clone, Copy, Debug, PartialEq, Eq)]
 pub enum Refusal {
     /// Put: the ring is as full as its memory allows.

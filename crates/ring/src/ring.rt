@@ -28,7 +28,7 @@ impl<'a, T> Model for Ring<'a, T> {
 }
 
 impl<'a, T: Copy> Ring<'a, T> {
-    /// An empty ring over this memory. It takes as many items as the memory has; what that holds by now does not matter.
+    /// An empty ring over this memory. It has room for as many items as the memory has places; what these hold already does not matter.
     pub fn over(memory: &'a mut [T]) -> Ring<'a, T>
         ensures ring { result ≡ emptied memory.entry.ghost_name memory.old }
         ensures items { items result ≡ [] }
@@ -62,14 +62,14 @@ impl<'a, T: Copy> Ring<'a, T> {
         self.len() == self.memory.len()
     }
 
-    /// The item that `take` would take out; it stays. None where there is none.
+    /// The item that `take` would take out; it stays in the ring. None where the ring is empty.
     pub fn first(&self) -> Option<T>
         ensures { result ≡ slice_get (items self.now) 0 }
     {
         self.span.first(self.memory)
     }
 
-    /// Puts an item behind the others. Refuses with 17 where the ring is as full as its memory allows.
+    /// Puts an item behind the others. Refuses with 17 where the ring has as many items as its memory has places.
     pub fn put(&mut self, item: T) -> Result<(), Refusal>
         ensures answer { result ≡ put_answer self.old.span self.old.slots }
         ensures ring { self.new ≡ put_in item self.old }
@@ -78,7 +78,7 @@ impl<'a, T: Copy> Ring<'a, T> {
         self.span.put(self.memory, item)
     }
 
-    /// Takes the first item out. None where there is none.
+    /// Takes the first item out and answers it. None where the ring is empty.
     pub fn take(&mut self) -> Option<T>
         ensures answer { result ≡ slice_get (items self.old) 0 }
         ensures ring { self.new ≡ taken self.old }

@@ -4,7 +4,8 @@ ghost use Rattle.ring.specs.Refusals.{put_answer};
 
 use crate::refusal::Refusal;
 
-// Which places of a memory hold the items of a ring: so many from the head on, around the end.
+// Which places of a memory hold the items of a ring: `count` places from `head` on, where the first place of the memory
+// follows the last.
 #[derive(Clone, Copy)]
 pub(crate) struct Span {
     pub(crate) head: usize,
@@ -12,7 +13,7 @@ pub(crate) struct Span {
 }
 
 impl Span {
-    // The place that is so many behind the head, around the end of a memory of this size.
+    // The place that is `behind` places after the head, in a memory of `size` places, where the first place follows the last.
     fn place(self, behind: usize, size: usize) -> usize
         requires head { self.head < size }
         requires behind { behind ≤ size }
@@ -27,7 +28,7 @@ impl Span {
         }
     }
 
-    // The first item. None where there is none.
+    // The first item; none where there are no items.
     #[tactic(auto, using(crate::proofs::Calls::none_first, crate::proofs::Calls::some_first))]
     pub(crate) fn first<T: Copy>(self, memory: &[T]) -> Option<T>
         requires { Fits self (length memory.now) }
@@ -57,7 +58,7 @@ impl Span {
         Ok(())
     }
 
-    // Lets the first item go, of a memory of this size.
+    // Takes the first item out, in a memory of `size` places.
     pub(crate) fn drop_first(&mut self, size: usize)
         requires { Fits self.old size }
         ensures span { self.new ≡ taken_span self.old size }

@@ -45,7 +45,7 @@ empty : says [] ≡ fault (Schedule (Number (Cut 0) 0))
 unfolding orders_from
 empty = refl
 
--- the most arms and no orders; one arm more, and 00, have too many and none
+-- a file of the most arms and no orders; of one arm more; and 00, which has no arms
 no_orders : says (groups arm_limit) ≡ Ok (record { arms = arm_limit; orders = [] })
 unfolding orders_from
 no_orders = refl

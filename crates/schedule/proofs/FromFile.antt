@@ -18,7 +18,7 @@ record Listed (bytes : List ℕ) (os : List Order) : Type 0 where
   near : Near os
   are : bytes ≡ order_bytes os
 
--- bytes that are a list are its first order and the rest; those that are none are no bytes
+-- bytes that read as a list begin with its first order, and the rest of them reads as the rest; bytes that read as no orders are none
 first_back : (place count : ℕ) (bytes : List ℕ) (o : Order) (os : List Order) → orders_from place count bytes ≡ Ok (o ∷ os)
     → (order_from place count bytes ≡ Ok (record { order = o; next = place + span bytes }))
     × (orders_from (place + span bytes) (count + 1) (drop (span bytes) bytes) ≡ Ok os)

@@ -24,7 +24,7 @@ number_of_groups place k rest h = grind (arith, nat_tests)
 pub groups_bytes : (k : ℕ) → k ≤ largest_number → IsBytes (groups k)
 groups_bytes k h = grind (arith, nat_tests)
 
--- no arm is too far
+-- no arm is above 4,095
 abbrev pub Near : List Order → Type 0
 Near os = All (λ o. arm_of_order o ≤ largest_arm) os
 
@@ -50,7 +50,7 @@ groups_of_number place bytes n b e =
     let s = b 0 0 in
     record { small = grind (arith, nat_tests); are = grind (arith, nat_tests) }
 
--- and ends as many bytes on as it has
+-- and the place after it is as many bytes on as it has
 pub record Ends (place : ℕ) (bytes : List ℕ) (n : Number) : Type 0 where
   pub next_is : n.next ≡ place + span bytes
   pub within : span bytes ≤ length bytes

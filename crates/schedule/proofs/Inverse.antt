@@ -15,7 +15,7 @@ use Rattle.schedule.proofs.Groups.{Near, number_near, near_number}
 use Rattle.schedule.proofs.FromList.{reads_back}
 use Rattle.schedule.proofs.FromFile.{reads_lawful}
 
--- the writer
+-- the writer has a file for the lawful lists, and for no other
 pub writes_lawful : WritesLawful
 writes_lawful c = (forth, back)
   where

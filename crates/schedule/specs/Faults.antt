@@ -36,7 +36,7 @@ fault_word ShortMemory = codes "short memory"
 fault_word (Schedule fault) = schedule_fault_word fault
 fault_word Full = codes "full"
 
--- the place of the faulty number's first byte
+-- the place of the faulty number's first byte, from 0; 0 too where no number is faulty
 abbrev pub fault_place : PlayFault → ℕ
 fault_place (Schedule (Number (Cut place) order)) = place
 fault_place (Schedule (Number (Padded place) order)) = place
@@ -44,7 +44,7 @@ fault_place (Schedule (Number (Large place) order)) = place
 fault_place (Schedule (UnknownOrder place order)) = place
 fault_place _ = 0
 
--- the count of the faulty number, the arm count being 0
+-- the count of the faulty number, the arm count being 0; 0 too where no number is faulty
 abbrev pub fault_order : PlayFault → ℕ
 fault_order (Schedule (Number fault order)) = order
 fault_order (Schedule (UnknownOrder place order)) = order

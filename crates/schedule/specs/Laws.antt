@@ -9,17 +9,18 @@ use Rattle.schedule.specs.Orders.{arm_of_order}
 use Rattle.schedule.specs.Reading.{Contents, contents, says}
 use Rattle.schedule.specs.Writing.{file_bytes, file_of, write_answer, write_memory}
 
+-- the file of a list
 abbrev pub bytes_of : Contents → List ℕ
 bytes_of c = file_bytes c.arms c.orders
 
--- a list is lawful if its arm count is 1 to the limit, no arm is too far, and its file is not too long
+-- a list is lawful if its arm count is 1 to 100, no arm is above 4,095, and its file has at most 60,000 bytes
 pub record IsLawful (c : Contents) : Type 0 where
   pub some_arms : 1 ≤ c.arms
   pub few_arms : c.arms ≤ arm_limit
   pub near_arms : All (λ o. arm_of_order o ≤ largest_arm) c.orders
   pub short : length (bytes_of c) ≤ file_limit
 
--- a byte of a list is any number: that each is below 256 is said where it matters
+-- each number of the list is a byte; the definitions take any numbers, and the laws say where they must be bytes
 abbrev pub IsBytes : List ℕ → Type 0
 IsBytes file = All (λ b. b < 256) file
 
@@ -34,7 +35,7 @@ WritesLawful =
 abbrev pub ReadsBack : Type 0
 ReadsBack = (c : Contents) → IsLawful c → IsBytes (bytes_of c) × (says (bytes_of c) ≡ Ok c)
 
--- no other file does
+-- no other file reads back as the list
 abbrev pub OneFile : Type 0
 OneFile = (c : Contents) → IsLawful c → (file : List ℕ) → IsBytes file → says file ≡ Ok c → file ≡ bytes_of c
 
@@ -48,15 +49,16 @@ pub record Inverse : Type 0 where
   pub one_file : OneFile
   pub reads_lawful : ReadsLawful
 
--- the same of one call: what was read into the memory is lawful, and the file is its file
+-- the list that a call of read put into the memory
 abbrev pub listed : Heading → List Order → Contents
 listed h memory = record { arms = h.arms; orders = take h.orders memory }
 
+-- of a call of read: what it put into the memory is lawful, and the file that it read is the file of that
 abbrev pub WasRead : Result Heading PlayFault → List ℕ → List Order → Type 0
 WasRead (Ok h) file memory = IsLawful (listed h memory) × (file ≡ bytes_of (listed h memory))
 WasRead (Err fault) file memory = Unit {0}
 
--- what was written into the memory is lawful, and reads back
+-- of a call of write: the list is lawful, and what was written into the memory reads back
 abbrev pub WasWritten : Result ℕ WriteRefusal → Contents → List ℕ → Type 0
 WasWritten (Ok n) c memory = IsLawful c × (says (take n memory) ≡ Ok c)
 WasWritten (Err refusal) c memory = Unit {0}
@@ -66,15 +68,15 @@ pub record HoldsFile (c : Contents) (memory : List ℕ) (at : ℕ) : Type 0 wher
   pub is_file : file_of c.arms c.orders ≡ Ok (take at memory)
   pub within : at ≤ length memory
 
--- a call came to just what writing a whole list comes to: the same answer and the same memory, which then begins with the
--- list's file; that reads back
+-- a call answers what writing the whole list answers, and leaves the memory as that does; the memory then begins with the
+-- list's file, which reads back
 pub record IsAsWritten (answer_is : Result ℕ WriteRefusal) (c : Contents) (before after : List ℕ) : Type 0 where
   pub answer : answer_is ≡ write_answer c.arms c.orders (length before)
   pub memory : after ≡ write_memory c.arms c.orders before
   pub holds : IfOk answer_is (λ end. HoldsFile c after end)
   pub reads_back : WasWritten answer_is c after
 
--- a file is started as that of no orders
+-- starting a file does what writing the list of no orders does
 abbrev pub WasStarted : Result ℕ WriteRefusal → ℕ → List ℕ → List ℕ → Type 0
 WasStarted answer arms before after = IsAsWritten answer (contents arms []) before after
 

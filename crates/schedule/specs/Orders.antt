@@ -13,7 +13,7 @@ arm_of_order (Begin arm) = arm
 arm_of_order (Step arm) = arm
 arm_of_order (Leave arm) = arm
 
--- kind 3 is no order
+-- the order that has a number; none where its kind is 3
 abbrev pub order_of : ℕ → Option Order
 order_of k =
     if k % 4 == 0 then Some (Begin (k / 4))

@@ -24,12 +24,12 @@ pub record Contents : Type 0 where
 abbrev pub contents : ℕ → List Order → Contents
 contents arms orders = record { arms = arms; orders = orders }
 
--- the first fault is the answer
+-- f of what was found, or the fault
 abbrev pub and_then : {X Y E : Type 0} → Result X E → (X → Result Y E) → Result Y E
 and_then (Ok x) f = f x
 and_then (Err e) f = Err e
 
--- a fault is carried whole into the layer above
+-- a number fault gets the count of its number; each layer above carries the fault of the one below whole
 abbrev pub with_count : {X : Type 0} → ℕ → Result X NumberFault → Result X Counted
 with_count count (Ok x) = Ok x
 with_count count (Err fault) = Err (record { fault = fault; order = count })
@@ -42,23 +42,24 @@ abbrev pub in_play : {X : Type 0} → Result X ScheduleFault → Result X PlayFa
 in_play (Ok x) = Ok x
 in_play (Err fault) = Err (Schedule fault)
 
--- the count-th number of a file, which begins at a place, and what follows from it
+-- f of the number that begins at a place, the count-th of its file; or its fault
 abbrev pub numbered : {X : Type 0} → ℕ → ℕ → List ℕ → (Number → Result X ScheduleFault) → Result X ScheduleFault
 numbered place count bytes f = and_then (in_schedule (with_count count (number_from place bytes))) f
 
--- the first number is the arm count
+-- the arm count, which is the first number of a file
 abbrev pub arms_from : List ℕ → Result Number ScheduleFault
 arms_from bytes = numbered 0 0 bytes (λ n. if is_arm_count n.value then Ok n else Err S.ArmCount)
 
--- each further one is an order, of a kind that is known
+-- each further number is an order, or has the unknown kind 3
 abbrev pub known : ℕ → ℕ → ℕ → Option Order → Result Placed ScheduleFault
 known place count after (Some o) = Ok (record { order = o; next = after })
 known place count after None = Err (S.UnknownOrder place count)
 
+-- the order that begins at a place, the count-th of its file
 abbrev pub order_from : ℕ → ℕ → List ℕ → Result Placed ScheduleFault
 order_from place count bytes = numbered place count bytes (λ n. known place count n.next (order_of n.value))
 
--- an order and those after it
+-- an order and those after it, or the fault of these
 abbrev pub preceded : Order → Result (List Order) ScheduleFault → Result (List Order) ScheduleFault
 preceded o (Ok os) = Ok (o ∷ os)
 preceded o (Err fault) = Err fault
@@ -72,10 +73,11 @@ orders_from place count (low ∷ high ∷ rest) =
     let two = orders_from (place + 2) (count + 1) rest in
     and_then (order_from place count (low ∷ high ∷ rest)) (λ p. preceded p.order (if nat_lt low 128 then one else two))
 
--- the same as a list, where they have no fault
+-- the orders from a place to the end of a file, where these have no fault
 abbrev pub orders_at : List ℕ → ℕ → ℕ → List Order
 orders_at file at count = result_unwrap_or (orders_from at count (drop at file)) []
 
+-- how many orders there are
 abbrev pub order_count : Result (List Order) ScheduleFault → Result ℕ ScheduleFault
 order_count (Ok os) = Ok (length os)
 order_count (Err fault) = Err fault
@@ -88,10 +90,11 @@ contents_from n bytes =
 abbrev pub schedule_from : List ℕ → Result Contents ScheduleFault
 schedule_from bytes = and_then (arms_from bytes) (λ n. contents_from n bytes)
 
--- a file that is not too long
+-- the file where it has at most 60,000 bytes
 abbrev pub short_file : List ℕ → Result (List ℕ) PlayFault
 short_file bytes = if nat_le (length bytes) file_limit then Ok bytes else Err LongFile
 
+-- what a file says: its arm count and orders, or its first fault
 abbrev pub says : List ℕ → Result Contents PlayFault
 says bytes = and_then (short_file bytes) (λ file. in_play (schedule_from file))
 
@@ -102,12 +105,12 @@ abbrev pub heading_of : Result Contents PlayFault → Result Heading PlayFault
 heading_of (Ok c) = Ok (heading c)
 heading_of (Err fault) = Err fault
 
--- what the reader answers, into memory for so many orders
+-- what the reader answers, with memory that has room for so many orders
 abbrev pub read_answer : Result Contents PlayFault → ℕ → Result Heading PlayFault
 read_answer (Ok c) room = if nat_le (length c.orders) room then Ok (heading c) else Err Full
 read_answer (Err fault) room = Err fault
 
--- what the memory then holds
+-- what the memory holds after the reader
 abbrev pub read_memory : Result Contents PlayFault → List Order → List Order
 read_memory (Ok c) memory = put_into memory c.orders
 read_memory (Err fault) memory = memory

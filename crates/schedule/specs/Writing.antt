@@ -24,10 +24,11 @@ write_refusal_word Full = codes "full"
 abbrev pub order_bytes : List Order → List ℕ
 order_bytes orders = flat_map (λ o. groups (order_number o)) orders
 
+-- the bytes of a file: the arm count, then the orders
 abbrev pub file_bytes : ℕ → List Order → List ℕ
 file_bytes arms orders = groups arms ++ order_bytes orders
 
--- no order's number is too large
+-- whether no order's number is above 16,383
 abbrev pub are_small : List Order → Bool
 are_small orders = list_all (λ o. nat_le (order_number o) largest_number) orders
 
@@ -49,7 +50,7 @@ abbrev pub length_or_full : Result (List ℕ) WriteRefusal → ℕ → Result �
 length_or_full (Ok file) room = if nat_le (length file) room then Ok (length file) else Err Full
 length_or_full (Err refusal) room = Err refusal
 
--- what the writer answers, into memory for so many bytes
+-- what the writer answers, with memory of room bytes
 abbrev pub write_answer : ℕ → List Order → ℕ → Result ℕ WriteRefusal
 write_answer arms orders room = length_or_full (file_of arms orders) room
 
@@ -57,15 +58,15 @@ abbrev pub file_or_nothing : Result (List ℕ) WriteRefusal → List ℕ → Lis
 file_or_nothing (Ok file) memory = put_into memory file
 file_or_nothing (Err refusal) memory = memory
 
--- what the memory then holds
+-- what the memory holds after the writer
 abbrev pub write_memory : ℕ → List Order → List ℕ → List ℕ
 write_memory arms orders memory = file_or_nothing (file_of arms orders) memory
 
--- memory after bytes were written at a place, which changes no others
+-- the memory after bytes were written at a place; no others change
 abbrev pub written_at : ℕ → List ℕ → List ℕ → List ℕ
 written_at at bytes memory = take at memory ++ bytes ++ drop (at + length bytes) memory
 
--- a file that grows one order at a time. What starting it answers, in memory for so many bytes, and what the memory then holds
+-- what start answers, with memory of room bytes, and what the memory then holds
 abbrev pub start_answer : ℕ → ℕ → Result ℕ WriteRefusal
 start_answer arms room =
     if is_arm_count arms
@@ -75,14 +76,14 @@ start_answer arms room =
 abbrev pub start_memory : ℕ → List ℕ → List ℕ
 start_memory arms memory = if is_ok (start_answer arms (length memory)) then written_at 0 (groups arms) memory else memory
 
--- where the file ends with one order more, or the refusal that comes first
+-- where the file would end with this order more, or the refusal that comes first
 abbrev pub end_or_refusal : Order → ℕ → ℕ → Result ℕ WriteRefusal
 end_or_refusal order end room =
     if nat_le (order_number order) largest_number
     then (if nat_le end file_limit then (if nat_le end room then Ok end else Err Full) else Err LongFile)
     else Err Large
 
--- what appending an order answers, to a file that ends at a place, and what the memory then holds
+-- what append answers, of a file that ends at a place, and what the memory then holds
 abbrev pub append_answer : Order → ℕ → ℕ → Result ℕ WriteRefusal
 append_answer order at room = end_or_refusal order (at + length (groups (order_number order))) room
 

@@ -20,8 +20,8 @@ pub(crate) fn put_order(order: Order, file: &mut [u8], at: usize) -> usize
     put(file, at, order.number())
 }
 
-/// Starts a file at the start of the memory: writes its arm count, and answers where it ends.
-/// A refusal leaves the memory as it was.
+/// Starts a file at the start of the memory: writes its arm count, and answers the place where it ends.
+/// Refuses with 14, then 16, and then leaves the memory as it was.
 #[tactic(auto, using(crate::proofs::Appended::started))]
 pub fn start(arms: usize, file: &mut [u8]) -> Result<usize, WriteRefusal>
     ensures answer { result ≡ start_answer arms (length file.old) }
@@ -31,7 +31,7 @@ pub fn start(arms: usize, file: &mut [u8]) -> Result<usize, WriteRefusal>
     write(arms, &[], file)
 }
 
-// Where a file that ends at a place ends with one order more, in memory for so many bytes.
+// Where a file that ends at place `at` ends with this order more, in memory of `room` bytes; or why the order is refused.
 fn end_after(order: Order, at: usize, room: usize) -> Result<usize, WriteRefusal>
     ensures { result ≡ append_answer order at room }
 {
@@ -49,8 +49,8 @@ fn end_after(order: Order, at: usize, room: usize) -> Result<usize, WriteRefusal
     Ok(at + size)
 }
 
-/// Appends an order to a file that ends at a place of the memory, and answers where it ends then.
-/// A refusal leaves the memory as it was.
+/// Appends an order to a file that ends at place `at` of the memory, and answers the place where it ends then.
+/// Refuses with 13, then 9, then 16, and then leaves the memory as it was.
 #[tactic(auto, using(crate::proofs::Appended::appended, crate::proofs::Appended::put_appended))]
 pub fn append(order: Order, file: &mut [u8], at: usize) -> Result<usize, WriteRefusal>
     ensures answer { result ≡ append_answer order at (length file.old) }

@@ -33,11 +33,11 @@ pub enum ScheduleFault {
 pub enum PlayFault {
     /// The file has more than 60,000 bytes.
     LongFile,
-    /// The memory for the report has fewer bytes than play asks for.
+    /// The memory for a report or a fault line has fewer than 4,096 bytes.
     ShortMemory,
     /// The file is faulty.
     Schedule(ScheduleFault),
-    /// The reader's memory is for fewer orders than the file has.
+    /// The reader's memory has room for fewer orders than the file has.
     Full,
 }
 
@@ -49,7 +49,7 @@ pub enum Layer {
     Play,
 }
 
-// A number fault with the count of its order, on its way into a schedule fault.
+// A number fault and the faulty number's count in the file, of which a schedule fault is made.
 #[derive(Clone, Copy, Debug, PartialEq, Eq)]
 pub struct Counted {
     pub fault: NumberFault,
@@ -94,7 +94,7 @@ impl PlayFault {
         }
     }
 
-    /// The place of the faulty number's first byte, or 0.
+    /// The place of the faulty number's first byte, from 0; 0 too where no number is faulty.
     pub fn place(self) -> usize
         ensures { result ≡ fault_place self }
     {
@@ -109,7 +109,7 @@ impl PlayFault {
         }
     }
 
-    /// The count of the faulty number, the arm count being 0, or 0.
+    /// The count of the faulty number, the arm count being 0; 0 too where no number is faulty.
     pub fn order(self) -> usize
         ensures { result ≡ fault_order self }
     {
@@ -121,7 +121,7 @@ impl PlayFault {
         }
     }
 
-    /// The layer that found the fault.
+    /// The layer that the fault arises in.
     pub fn layer(self) -> Layer
         ensures { result ≡ fault_layer self }
     {

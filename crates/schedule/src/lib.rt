@@ -9,17 +9,17 @@ mod fault;
 mod limit;
 // Numbers in groups of seven bits.
 pub mod number;
-// The orders of a file one after another.
+// The orders of a file, as an iterator.
 mod order_iter;
 // An order and its number.
 mod order_number;
 // The arm count of a file, and the order at a place of it.
 pub mod parts;
-// A file made into orders.
+// The reader.
 mod reader;
-// A file on its way to a schedule.
+// A file whose length is tested, and a schedule: a file that was gone through whole.
 mod schedule_file;
-// Orders made into a file.
+// The writer, and why it refuses.
 mod writer;
 
 pub use appending::{append, start};

@@ -18,7 +18,7 @@ pub struct Number {
     pub next: usize,
 }
 
-/// The number that begins at a place. It is cut where the place is at or past the end.
+/// The number that begins at a place. Where the place is at or past the end of the file, the fault is 11 (cut).
 pub fn number_at(file: &[u8], at: usize) -> Result<Number, NumberFault>
     ensures { result ≡ number_from at (drop at file.now) }
 {
@@ -40,7 +40,7 @@ pub fn number_at(file: &[u8], at: usize) -> Result<Number, NumberFault>
     }
 }
 
-/// Whether a number fits two groups, as each number of a file does.
+/// Whether a number fits two groups, as each number of a file does: whether it is 16,383 at most.
 pub fn fits_two_groups(number: u32) -> bool
     ensures { result ≡ nat_le number largest_number }
 {

@@ -7,7 +7,7 @@ use crate::parts::order_at;
 use std::marker::Model;
 
 /// The orders of a schedule that are left, in the order of its file.
-// The file has no fault from the place on, where the order of this count stands.
+// From place `at` on, where the `count`-th order begins, the file has no fault.
 #[derive(Drop)]
 pub struct Orders<'a> {
     file: &'a [u8],
@@ -56,7 +56,7 @@ impl<'a> Iterator for Orders<'a> {
 
     ghost remaining = { item_count (λ rest. rest) };
 
-    // The file was gone through before: a number of a known kind stands at the place, unless it is the end.
+    // The file has no fault from the place on, so an order stands there unless the file ends there.
     #[inline(always)]
     #[tactic(auto, using(crate::proofs::OneMoreOrder::next_order))]
     fn next(&mut self) -> Option<Order> {

@@ -1,7 +1,7 @@
 ghost use Rattle.std.specs.Prelude.{◌≡◌};
 ghost use Rattle.schedule.specs.Orders.{order_number, order_of};
 
-/// What an arm is to do. A file has arms up to 4,095; whether a gate has the arm is found out in a play.
+/// What an arm is to do. A file has arms 0 to 4,095; whether the gate has the arm is found out when the file is played.
 #[derive(Clone, Copy, Debug, PartialEq, Eq)]
 pub enum Order {
     Begin(u16),
@@ -10,7 +10,7 @@ pub enum Order {
 }
 
 impl Order {
-    /// Four times the arm, and the kind.
+    /// Four times the arm plus the kind: 0 begin, 1 step, 2 leave.
     pub fn number(self) -> u32
         ensures { result ≡ order_number self }
     {
@@ -21,7 +21,7 @@ impl Order {
         }
     }
 
-    /// The order that has this number; none has kind 3.
+    /// The order that has this number; none where its kind is 3.
     pub fn from_number(number: u16) -> Option<Order>
         ensures { result ≡ order_of number }
     {

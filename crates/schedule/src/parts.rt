@@ -14,7 +14,7 @@ pub struct Placed {
     pub next: usize,
 }
 
-// The number at a place, its fault with the count of the order that it stands for.
+// The number at a place. A fault has with it the number's count in the file, the arm count being 0.
 fn counted(file: &[u8], at: usize, count: usize) -> Result<Number, Counted>
     ensures { result ≡ with_count count (number_from at (drop at file.now)) }
 {
@@ -24,7 +24,7 @@ fn counted(file: &[u8], at: usize, count: usize) -> Result<Number, Counted>
     })
 }
 
-/// The arm count, the first number of a file, and the place after it.
+/// The arm count, which is the first number of a file, and the place after it. Its faults are 11 to 14.
 pub fn arms_of(file: &[u8]) -> Result<Number, ScheduleFault>
     ensures { result ≡ arms_from file.now }
 {
@@ -35,7 +35,7 @@ pub fn arms_of(file: &[u8]) -> Result<Number, ScheduleFault>
     Ok(number)
 }
 
-/// The order at a place, the `count`-th of its file, the first being 1.
+/// The order at a place, the `count`-th of its file, the first being 1. Its faults are 11, 12, 13 and 15.
 #[inline(always)]
 pub fn order_at(file: &[u8], at: usize, count: usize) -> Result<Placed, ScheduleFault>
     ensures { result ≡ order_from at count (drop at file.now) }

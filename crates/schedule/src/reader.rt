@@ -7,7 +7,7 @@ use crate::fault::PlayFault;
 use crate::order_number::Order;
 use crate::schedule_file::{File, Heading, Schedule};
 
-/// Goes through a whole file: its heading, or its first fault.
+/// Goes through a whole file, and answers its heading or its first fault: 9, or one of 11 to 15.
 pub fn check(file: &[u8]) -> Result<Heading, PlayFault>
     ensures { result ≡ heading_of (says file.now) }
 {
@@ -26,7 +26,8 @@ fn put_orders(schedule: &Schedule, memory: &mut [Order])
     }
 }
 
-/// Puts the orders of a file at the start of the memory. A refusal leaves the memory as it was.
+/// Puts the orders of a file at the start of the memory, and answers its heading; memory past the orders stays as it was.
+/// The faults are those of [`check`], then 16 where the memory is too short. A fault leaves the memory as it was.
 pub fn read(file: &[u8], orders: &mut [Order]) -> Result<Heading, PlayFault>
     ensures answer { result ≡ read_answer (says file.now) (length orders.old) }
     ensures memory { orders.new ≡ read_memory (says file.now) orders.old }

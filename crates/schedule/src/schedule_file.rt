@@ -8,14 +8,14 @@ use crate::order_iter::Orders;
 use crate::parts::{arms_of, order_at};
 use std::marker::Model;
 
-/// What stands before the orders of a file, and how many orders there are.
+/// The arm count of a file, and how many orders it has.
 #[derive(Clone, Copy, Debug, PartialEq, Eq)]
 pub struct Heading {
     pub arms: u16,
     pub orders: usize,
 }
 
-/// A file that is not too long. What it says is not known yet.
+/// A file of at most 60,000 bytes, which may still have a fault.
 #[derive(Drop)]
 pub struct File<'a> {
     bytes: &'a [u8],
@@ -32,7 +32,7 @@ impl<'a> Model for File<'a> {
     ghost invariant = { λ f. length f.bytes.now ≤ file_limit };
 }
 
-/// A file that was gone through whole: its arm count and its orders.
+/// A file that was gone through whole and has no fault: its arm count and its orders.
 #[derive(Drop)]
 pub struct Schedule<'a> {
     heading: Heading,
@@ -51,7 +51,7 @@ impl<'a> Model for Schedule<'a> {
     ghost invariant = { λ s. (s.heading.orders ≡ length s.orders) × (length s.orders ≤ file_limit) };
 }
 
-// How many orders stand from a place to the end of a file.
+// How many orders there are from a place to the end of a file, or the first fault there. The first order counts as 1.
 #[tactic(auto, using(crate::proofs::ReadSoFar::counting))]
 fn count_orders(file: &[u8], from: usize) -> Result<usize, ScheduleFault>
     ensures answer { result ≡ order_count (orders_from from 1 (drop from file.now)) }
@@ -68,7 +68,7 @@ fn count_orders(file: &[u8], from: usize) -> Result<usize, ScheduleFault>
 }
 
 impl<'a> File<'a> {
-    /// Opens a file of at most 60,000 bytes; a longer one is refused as long.
+    /// Takes a file of at most 60,000 bytes; the fault of a longer one is 9.
     pub fn new(bytes: &'a [u8]) -> Result<File<'a>, PlayFault>
         ensures { result ≡ short_file bytes.now }
     {
@@ -78,7 +78,7 @@ impl<'a> File<'a> {
         Ok(File { bytes })
     }
 
-    /// Goes through the whole file, and answers its orders or its first fault.
+    /// Goes through the whole file, and answers its arm count and orders, or its first fault, one of 11 to 15.
     pub fn schedule(&self) -> Result<Schedule<'a>, ScheduleFault>
         ensures { result ≡ schedule_from self.now }
     {
@@ -103,7 +103,7 @@ impl<'a> Schedule<'a> {
         self.heading
     }
 
-    /// The orders, from the first on. There are no more of them than bytes in the longest file.
+    /// The orders, from the first on: 60,000 at most.
     pub fn orders(&self) -> Orders<'a>
         ensures orders { result ≡ self.now.orders }
         ensures few { length result ≤ file_limit }

@@ -10,7 +10,7 @@ use crate::order_number::Order;
 use std::error::Error;
 use std::fmt;
 
-/// Why a list of orders is not written.
+/// Why a list of orders, or one order more, is not written.
 #[derive(Clone, Copy, Debug, PartialEq, Eq)]
 pub enum WriteRefusal {
     /// The arm count is 0 or above [`ARM_LIMIT`].
@@ -19,7 +19,7 @@ pub enum WriteRefusal {
     Large,
     /// The file would have more than 60,000 bytes.
     LongFile,
-    /// The memory is for fewer bytes than the file has.
+    /// The memory has fewer bytes than the file.
     Full,
 }
 
@@ -94,8 +94,8 @@ fn fill(arms: usize, orders: &[Order], out: &mut [u8]) -> usize
     at
 }
 
-/// Writes the file of a list at the start of the memory, and answers its length.
-/// A refusal leaves the memory as it was.
+/// Writes the file of a list at the start of the memory, and answers its length. Refuses with 14, then 13, then 9, then 16,
+/// and then leaves the memory as it was.
 pub fn write(arms: usize, orders: &[Order], out: &mut [u8]) -> Result<usize, WriteRefusal>
     ensures answer { result ≡ write_answer arms orders.now (length out.old) }
     ensures memory { out.new ≡ write_memory arms orders.now out.old }
@@ -115,7 +115,8 @@ fn has_file(arms: usize, orders: &[Order]) -> bool
     measure(arms, orders).is_ok()
 }
 
-/// Whether a list is lawful. Those lists are what the writer writes and the reader reads, and the two are inverse.
+/// Whether a list is lawful: its arm count is 1 to 100, no arm is above 4,095, and its file has at most 60,000 bytes.
+/// The writer writes just these lists, the reader reads just their files, and the two are inverse.
 pub fn is_lawful(arms: usize, orders: &[Order]) -> bool
     ensures answer { IsTrue result ↔ IsLawful (contents arms orders.now) }
     ensures laws { Inverse }

@@ -1,4 +1,4 @@
--- Every call is a move of the machine or nothing that it sees; so every history of a gate simulates a run of the machine.
+-- Every call is a move of the machine or leaves the machine as it is; so every history of a gate simulates a run of the machine.
 use Rattle.std.proofs.Common.{◌≡◌, ℕ, ◌-◌, ◌<◌, ◌≤◌, Bool, true, false, not, ◌&&◌, T, eqb, List, length, get_or, map, drop, None, sym, refl, ap, ◌∙◌, subst, arith}
 use Rattle.std.proofs.lemmas.Bool.Decides.{nat_tests}
 use Rattle.std.proofs.lemmas.Bool.{cond-false, ne_eqb}

@@ -125,7 +125,7 @@ read_by_deed δ β arms ask = bit_number β
 read_by_deed δ β arms (look c j) = holds δ c (arms j)
 read_by_deed δ β arms d = 0
 
--- what deeds there are
+-- what each deed says of the stance and of the values
 pub rests : (δ : Kind) (a : Stance) → deed δ a ≡ rest → ¬ (T (may_step a))
 rests δ a e k = grind arith
 
@@ -141,7 +141,7 @@ tells δ a c v e = grind arith
 pub turns : (δ : Kind) (a : Stance) (v : ℕ) → deed δ a ≡ turn v → v ≤ highest δ
 turns δ a v e = grind arith
 
--- they keep the cells and the bit in step with the machine
+-- after a step's deed the cells and the bit hold what the machine says after this step
 pub cells_follow : (δ : Kind) (n : ℕ) (β : Bool) (arms : ℕ → Stance) (a : Stance) (c : ℕ) → c < cells δ → T (may_step a) → holds δ c (step_arm δ n β arms a) ≡ told_by c (deed δ a) (holds δ c a)
 cells_follow δ n β arms (waits u j p) c cl k = outcome (λ r. holds δ c r ≡ told_by c (deed δ (waits u j p)) (holds δ c (waits u j p))) δ n β (arms j) u (λ j p. grind arith) (grind arith) j p
 cells_follow δ n β arms a c cl k = grind (arith, nat_tests)

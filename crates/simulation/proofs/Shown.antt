@@ -87,7 +87,7 @@ module _ {At : Type 0} {door : Table At} (plan : Plan door) (making : Making) (p
     told : (w : ℕ) → Waits door now w → (T (has_way door now w) ↔ RightOfWay door now w)
     told w h = let r = waits_range w h in let v = waiting w h in way_told plan now now.n here w r.0 r.1 v.0 v.1
 
-  -- where an arm waits there is one
+  -- a gate where an arm waits has an arm
   some : (w : ℕ) → Waits door now w → 1 ≤ now.n
   some w h = let r = waits_range w h in let lo = r.0 in let hi = r.1 in omega arith
 

@@ -81,7 +81,7 @@ module _ {At : Type 0} {door : Table At} {plan : Plan door} where
   pub bit_shown : (s : State At) (g : Machine) → Simulates plan s g → 1 ≤ s.n → bit_of s ≡ bit_number g.group
   bit_shown s g mir some = cond-false (eqb s.n 0) 0 (register s group) (ne_eqb s.n 0 (omega arith)) ∙ mir.group_is
 
-  -- the memory, the rows and the turns show nothing of the machine
+  -- the memory, the rows and the turns have no part in simulating
   pub tallied_simulates : (s : State At) (memory : Lent) (regs : List ℕ) (k : ℕ) (p q : Phase) (arms : List (Arm At)) (turns : ℕ) (g : Machine) → Simulates plan (record s { regs = regs; arms = arms }) g
       → Simulates plan (record s { memory = memory; regs = regs; arms = tallied door k p q arms; turns = turns }) g
   tallied_simulates s memory regs k p q arms turns g mir =

@@ -21,12 +21,12 @@ phase_of (Waiting j p) = P.W
 phase_of Inside = P.F
 phase_of (Leaving x) = P.X
 
--- the doorway's read of the bit is made at D2
+-- whether the access is the doorway's read of the bit: at D2
 abbrev pub reads : ThreeBits → Bool
 reads (Doorway D2) = true
 reads p = false
 
--- the first exit step has been made at X2
+-- whether an arm has made its first exit step: at X2
 abbrev pub is_turned : ThreeBits → Bool
 is_turned (Leaving X2) = true
 is_turned p = false
@@ -55,7 +55,7 @@ read_by j W4 = flag_of j
 read_by j W5 = group
 read_by j W6 = mygroup_of j
 
--- the one access of arm i with a side
+-- the one access of arm i, with its side as a number, at a position
 abbrev pub access_of : ℕ → ℕ → ThreeBits → Access
 access_of i side (Doorway D1) = Write (choosing_of i) 1
 access_of i side (Doorway D2) = Read group
@@ -71,7 +71,7 @@ access_of i side p = Nothing
 abbrev pub onward : ℕ → ℕ → ThreeBits
 onward n j = if nat_lt j n then Waiting (j + 1) W1 else Inside
 
--- where a waiting arm of n with a side goes, having read v
+-- the next position of a waiting arm that has read v, in a gate of n arms
 abbrev pub next_place : ℕ → ℕ → ℕ → ℕ → Place → ThreeBits
 next_place n side v j W1 = if v == side then Waiting j W2 else Inside
 next_place n side v j W2 = if v == 0 then Waiting j W3 else Waiting j W2
@@ -80,7 +80,7 @@ next_place n side v j W4 = if v == 0 then onward n j else Waiting j W5
 next_place n side v j W5 = if v == side then Waiting j W6 else onward n j
 next_place n side v j W6 = if v == side then onward n j else Waiting j W4
 
--- where an arm goes, having read v
+-- the next position of an arm that has read v, in a gate of n arms
 abbrev pub next_of : ℕ → ℕ → ℕ → ThreeBits → ThreeBits
 next_of n side v (Doorway D1) = Doorway D2
 next_of n side v (Doorway D2) = Doorway D3

@@ -26,7 +26,7 @@ pub enum Exit {
     X2,
 }
 
-/// Where an arm stands at the three-bit door. A waiting arm has the index of the arm that it looks at, from 1, and its place.
+/// The position of an arm at the three-bit door. A waiting arm's has the index of the arm that it looks at, from 1, and its place.
 #[derive(Clone, Copy, Debug, PartialEq, Eq)]
 pub enum ThreeBits {
     Idle,
