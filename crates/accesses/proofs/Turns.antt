@@ -28,6 +28,6 @@ module _ {At : Type 0} (door : Table At) where
   pub turned_number : (s : State At) (i : ℕ) → (turned door s i).number ≡ s.number
   turned_number s i = in_stays (λ s. s.number) after_number (phase_at door s i) s i
 
-  -- one turn more
+  -- one more turn of a run
   pub run_on : (t n i : ℕ) (s now next : State At) → now ≡ run_of door t s → n ≡ s.n → i ≡ arm_of_turn t n → next ≡ turned door now i → next ≡ run_of door (t + 1) s
   run_on t n i s now next before arms arm turn = rw add-one (cc)

@@ -4,7 +4,7 @@ use Rattle.accesses.specs.declared.counting_bank.Count.{Count}
 use Rattle.accesses.specs.declared.cost.Cost.{Cost}
 use Rattle.accesses.specs.declared.cost.Costs.{Costs}
 
--- a sum; a count of 64 bits stops at its highest
+-- a sum; a count of 64 bits stops at its highest value
 abbrev pub sum_up : ℕ → ℕ → ℕ
 sum_up m n = min (m + n) (2 ^ 64 - 1)
 
@@ -15,7 +15,7 @@ spent earlier later = record { reads = later.reads - earlier.reads; writes = lat
 abbrev pub no_calls : Cost
 no_calls = record { calls = 0; reads = 0; writes = 0; least = 2 ^ 64 - 1; most = 0 }
 
--- one call more
+-- the cost with one more call, which made so many accesses
 abbrev pub with_call : Count → Cost → Cost
 with_call count c =
     record {
@@ -26,7 +26,7 @@ with_call count c =
       most = max c.most (sum_up count.reads count.writes);
     }
 
--- one call more, accepted or refused
+-- the costs with one more call, accepted or refused
 abbrev pub with_answer : Bool → Count → Costs → Costs
 with_answer accepted count c =
     (if accepted then record c { accepted = with_call count c.accepted } else record c { refused = with_call count c.refused })

@@ -12,16 +12,16 @@ use Rattle.gate_model.specs.declared.phase.Phase.TheVariants as P
 abbrev pub register_count : ℕ
 register_count = 3 * arm_limit + 1
 
--- the arm of a turn, of n arms; what lies below the highest 31 bits of a product is cut off
+-- the arm of a turn, of n arms: by the highest 31 bits of a product of 64 bits
 abbrev pub arm_of_turn : ℕ → ℕ → ℕ
 arm_of_turn turn n = ((turn * 0x9e3779b97f4a7c15) % 2 ^ 64 / 2 ^ 33) % n + 1
 
 module _ {At : Type 0} (door : Table At) where
-  -- an arm that may be admitted is, and leaves
+  -- arm i is admitted and leaves, where it may be admitted
   abbrev pub visited : State At → ℕ → State At
   visited s i = left_at_once door s i
 
-  -- what the phase of an arm asks for is done
+  -- arm i does what this phase asks for
   abbrev pub turned_in : Phase → State At → ℕ → State At
   turned_in P.I s i = after door s (begin i)
   turned_in P.D s i = after door s (step i)

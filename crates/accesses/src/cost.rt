@@ -4,7 +4,7 @@ ghost use Rattle.accesses.specs.Costs.{spent, no_calls, with_call, with_answer};
 use crate::counting_bank::Count;
 use std::fmt;
 
-// What calls of one kind cost together, and the least and the most accesses that one of them made.
+// What calls of one kind cost together, in register accesses, and the least and the most that one of them made.
 #[derive(Clone, Copy)]
 pub struct Cost {
     calls: u64,
@@ -22,7 +22,7 @@ pub struct Costs {
 }
 
 impl Count {
-    // What was counted from an earlier count on.
+    // What was counted since an earlier count.
     pub fn since(self, earlier: Count) -> Count
         ensures { result ≡ spent earlier self }
     {
@@ -46,7 +46,7 @@ impl Cost {
         }
     }
 
-    // One call more, which made so many accesses.
+    // Adds one call, which made so many accesses.
     pub fn add(&mut self, count: Count)
         ensures { self.new ≡ with_call count self.old }
     {
@@ -71,7 +71,7 @@ impl Costs {
         }
     }
 
-    // One call more, accepted or refused.
+    // Adds one call, which was accepted or refused.
     pub fn add(&mut self, accepted: bool, count: Count)
         ensures { self.new ≡ with_answer accepted count self.old }
     {

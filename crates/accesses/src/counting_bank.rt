@@ -6,21 +6,21 @@ use std::cell::Cell;
 use std::mem;
 use std::rc::Rc;
 
-// So many reads and writes.
+// How many reads and how many writes.
 #[derive(Clone, Copy, Debug, PartialEq, Eq)]
 pub struct Count {
     pub reads: u64,
     pub writes: u64,
 }
 
-// What was asked of a bank since it was made.
+// How many reads and writes were asked of a bank since it was made.
 #[derive(Drop)]
 pub struct Accesses {
     reads: Cell<u64>,
     writes: Cell<u64>,
 }
 
-// One more, in a cell.
+// Adds 1 to a count.
 fn add(cell: &Cell<u64>) {
     cell.set(cell.get().saturating_add(1));
 }
@@ -41,8 +41,7 @@ impl Accesses {
     }
 }
 
-// A bank of one byte each that owns its registers, and counts each read and each write that is asked of it,
-// also those that it refuses.
+// A bank that owns its registers, of one byte each, and counts each read and each write that is asked of it, refused ones too.
 #[derive(Drop)]
 pub struct CountingBank {
     registers: Vec<u8>,

@@ -15,13 +15,14 @@ use std::alloc::Global;
 use std::marker::PhantomData;
 use std::rc::Rc;
 
-// A number that ends here is cut: its byte says that another follows.
+// The last byte of a number that is cut: it says that another byte follows.
 const CUT: u8 = 0x80;
 
-// The kind of gate that is made here: a function that makes one names it in its header.
+// The kind of gate that is made here. A function that is written for every door and makes such a gate names the kind in its header: the
+// check knows that a gate is no larger than memory only of a kind that is named there.
 pub(crate) type ListedKind<D> = PhantomData<Gate<CountingBank, D>>;
 
-// Calls of so many turns. At each an arm is asked for all that a list can have, whatever its phase is.
+// A list with the calls of so many turns: at each, one call of each kind for one arm, whatever its phase is.
 fn calls_of_turns(alloc: Global, gate: u16, n: usize, turns: u64) -> anyhow::Result<Vec<Call>>
     requires { 1 ≤ n }
 {
@@ -40,7 +41,7 @@ fn calls_of_turns(alloc: Global, gate: u16, n: usize, turns: u64) -> anyhow::Res
     Ok(calls)
 }
 
-// Orders of so many turns, likewise.
+// A list with the orders of so many turns: at each, one order of each kind for one arm, whatever its phase is.
 fn orders_of(alloc: Global, n: usize, turns: u64) -> anyhow::Result<Vec<Order>>
     requires some { 1 ≤ n }
     requires few { n ≤ arm_limit }
@@ -68,7 +69,7 @@ fn counting_bank(alloc: Global, accesses: &Rc<Accesses>) -> anyhow::Result<Count
     Ok(CountingBank::new(vec![in alloc; 9; REGISTERS]?, accesses.clone()?))
 }
 
-// What making a gate and carrying out the calls of so many turns cost together.
+// Prints what making a gate and carrying out the calls of so many turns cost together.
 pub(crate) fn show_carried<D: Door>(
     rt: &HostRuntime,
     arms: usize,
@@ -104,7 +105,8 @@ fn cost_of_play<D: Door>(
     Ok((cost, played.answer.is_ok()))
 }
 
-// What playing a file with the orders of so many turns costs, and one that is cut in a number behind them, which is not played.
+// Prints what playing a file with the orders of so many turns costs, and then the same file with a cut number at its end, which is not
+// played.
 pub(crate) fn show_played<D: Door>(
     rt: &HostRuntime,
     arms: usize,

@@ -37,7 +37,7 @@ const NUMBER: u16 = 1;
 
 const OTHER_NUMBER: u16 = 2;
 
-// How long a run is, and one of the most arms.
+// How many turns a run has, and a run of the most arms.
 const TURNS: u64 = 20_000;
 
 const MORE_TURNS: u64 = 60_000;
@@ -57,14 +57,14 @@ const MAKINGS: [(usize, usize); 6] = [
 
 const MAKING_FOUR_VALUED: (usize, usize) = (1, ARM_LIMIT);
 
-// The kind of gate that is watched. Where the door is left open, a function that makes such a gate names its kind in its header,
-// since nothing else says that it is not larger than memory.
+// The kind of gate that is watched. A function that is written for every door and makes such a gate names the kind in its header: the
+// check knows that a gate is no larger than memory only of a kind that is named there.
 type Kind<D> = PhantomData<Watched<D>>;
 
-// The kind of dispatcher that is watched, likewise.
+// The kind of dispatcher that is watched, named in headers for the same reason.
 type MovedKind<D> = PhantomData<WatchedDispatcher<D>>;
 
-// Makes a gate over so many registers.
+// Makes a gate to be watched, over so many registers.
 fn gate_over<D: Door>(
     rt: &HostRuntime,
     registers: usize,
@@ -86,7 +86,7 @@ fn other_gate() -> Gate<BitBank, ThreeBits>
     Gate::make(BitBank::new(), OTHER_NUMBER, 1)
 }
 
-// What making costs over so many registers.
+// Prints what making a gate over so many registers costs, in register accesses.
 fn show_making<D: Door>(
     rt: &HostRuntime,
     registers: usize,
@@ -100,7 +100,7 @@ fn show_making<D: Door>(
     Ok(())
 }
 
-// What making costs, where it finds all arms that are wanted and where it has to look for fewer.
+// Prints what making costs where the bank has the registers of all arms that are wanted, and where it has not.
 fn show_makings<D: Door>(rt: &HostRuntime, kind: Kind<D>) -> anyhow::Result<()> {
     for (registers, wanted) in MAKINGS {
         show_making(rt, registers, wanted, kind)?;
@@ -108,7 +108,7 @@ fn show_makings<D: Door>(rt: &HostRuntime, kind: Kind<D>) -> anyhow::Result<()> 
     Ok(())
 }
 
-// What the calls of each kind cost.
+// Prints what the calls of each kind cost.
 fn show(rt: &HostRuntime, book: Book) -> anyhow::Result<()> {
     let Book {
         making: _,
@@ -142,7 +142,7 @@ fn show(rt: &HostRuntime, book: Book) -> anyhow::Result<()> {
     Ok(())
 }
 
-// What the calls that only watch cost on a gate with no arms.
+// Prints what the calls of `watch` cost on a gate with no arms.
 fn show_no_arms<D: Door>(rt: &HostRuntime, _kind: Kind<D>) -> anyhow::Result<()> {
     println!(rt; "no arms")?;
     let mut gate = gate_over::<D>(rt, 1, ARM_LIMIT)?;
@@ -150,7 +150,7 @@ fn show_no_arms<D: Door>(rt: &HostRuntime, _kind: Kind<D>) -> anyhow::Result<()>
     show(rt, gate.book())
 }
 
-// What the calls cost in a lively run of so many arms, and in one with calls that are refused.
+// Prints what the calls cost in a run of so many arms, and in one with calls that are refused at each turn.
 fn show_runs<D: Door>(
     rt: &HostRuntime,
     arms: usize,
@@ -171,7 +171,7 @@ fn show_runs<D: Door>(
     show(rt, gate.book())
 }
 
-// What the moves of a dispatcher cost, and its end.
+// Prints what the moves of a dispatcher and its end cost.
 fn show_moves<D: Door>(
     rt: &HostRuntime,
     arms: usize,
@@ -198,7 +198,7 @@ fn show_moves<D: Door>(
     Ok(())
 }
 
-// What all calls cost through one door.
+// Prints what all calls cost through one door, in runs of each arm count.
 fn show_door<D: Door>(rt: &HostRuntime, kind: Kind<D>) -> anyhow::Result<()>
     requires one { arms_for D.table 255 register_count 1 ≡ 1 }
     requires three { arms_for D.table 255 register_count 3 ≡ 3 }
@@ -216,7 +216,7 @@ fn show_door<D: Door>(rt: &HostRuntime, kind: Kind<D>) -> anyhow::Result<()>
     show_runs(rt, ARM_LIMIT, MORE_TURNS, kind)
 }
 
-// What those cost that have a gate of their own, of so many arms: a dispatcher, a list of calls that is carried out, and a play.
+// Prints what a dispatcher, a list of calls that is carried out, and a play cost. Each makes a gate of so many arms of its own.
 fn show_owned<D: Door>(
     rt: &HostRuntime,
     arms: usize,
@@ -231,7 +231,7 @@ fn show_owned<D: Door>(
     show_played(rt, arms, LISTED_TURNS, listed)
 }
 
-// What they cost through one door.
+// Prints what these three cost through one door, with each arm count.
 fn show_owners<D: Door>(
     rt: &HostRuntime,
     moved: MovedKind<D>,

@@ -15,13 +15,13 @@ use gate_model::arm::ARM_LIMIT;
 use ring::Ring;
 use std::rc::Rc;
 
-// A place for each arm, by its number.
+// A place for each arm that a gate can have, by its number.
 const PLACES: usize = ARM_LIMIT + 1;
 
-// How many arms wait to be begun at most.
+// How many arms fit into the ring of those that are asked for.
 const ASKED: usize = 24;
 
-// Of so many moves the first ones are those at which an arm asks.
+// Of each MOVES_A_BURST moves the first ASKS_A_BURST are those before which an arm asks.
 const MOVES_A_BURST: u64 = 2048;
 
 const ASKS_A_BURST: u64 = 16;
@@ -48,7 +48,7 @@ impl MoveBook {
         }
     }
 
-    // One move more, of an arm that was inside before it or not; of arm 0 where all were idle.
+    // Adds one move, of an arm that was inside before it or not; of arm 0 where all were idle.
     fn add(&mut self, arm: usize, was_inside: bool, count: Count)
         ensures { self.new ≡ with_move arm was_inside count self.old }
     {
@@ -68,7 +68,7 @@ pub struct WatchedDispatcher<D: Door> {
     dispatcher: Dispatcher<CountingBank, D>,
     accesses: Rc<Accesses>,
     book: MoveBook,
-    // Which arms are inside by now.
+    // Which arms were inside when they were last noted.
     inside: [bool; PLACES],
 }
 
@@ -99,12 +99,12 @@ impl<D: Door> WatchedDispatcher<D> {
         self.dispatcher.gate().arm_count()
     }
 
-    // Whether an arm was inside when it was noted last.
+    // Whether an arm was inside when it was last noted.
     fn was_inside(&self, arm: usize) -> bool {
         matches!(self.inside.get(arm), Some(true))
     }
 
-    // Puts down what the move of an arm cost, 0 for none, and whether the arm is inside by now.
+    // Notes what a move cost that served this arm, or none where it is 0, and whether the arm is inside after it.
     fn note(&mut self, arm: usize, count: Count)
         ensures { self.new.dispatcher ≡ self.old.dispatcher }
     {
@@ -146,7 +146,7 @@ impl<D: Door> WatchedDispatcher<D> {
     }
 }
 
-// Makes so many moves. Arms ask in bursts, so that at times all are idle; one of those that ask is none of the gate's.
+// Makes so many moves. Arms ask in bursts, so that at times all are idle; among them is one that the gate does not have.
 pub(crate) fn make_moves<D: Door>(dispatcher: &mut WatchedDispatcher<D>, moves: u64)
     ensures { MovesMade D.table moves dispatcher.old.dispatcher dispatcher.new.dispatcher }
 {

@@ -24,7 +24,7 @@ pub(crate) fn arm_of_turn(turn: u64, n: usize) -> usize
     (turn.wrapping_mul(SPREAD) >> 33) as usize % n + 1
 }
 
-// An arm that may be admitted is, and leaves. Meanwhile its pass is confirmed, and not given again.
+// Admits an arm, and lets it leave. In between its pass is confirmed, and another admit is refused.
 fn visit<D: Door>(gate: &mut Watched<D>, arm: usize)
     requires { refusal_of D.table gate.old.gate (Admit arm) ≡ None }
     ensures { gate.new.gate ≡ visited D.table gate.old.gate arm }
@@ -35,7 +35,7 @@ fn visit<D: Door>(gate: &mut Watched<D>, arm: usize)
     gate.leave(pass).unwrap();
 }
 
-// What the phase of an arm asks for.
+// Makes the calls that the phase of an arm asks for. Of arms inside, those of even number are let go, the others are admitted and leave.
 fn turn<D: Door>(gate: &mut Watched<D>, arm: usize)
     requires { is_arm gate.old.gate arm ≡ true }
     ensures { gate.new.gate ≡ turned D.table gate.old.gate arm }
@@ -48,7 +48,7 @@ fn turn<D: Door>(gate: &mut Watched<D>, arm: usize)
         Phase::D | Phase::W | Phase::X => {
             let _ = gate.step(arm);
         }
-        // Whoever has the pass lets the arm go.
+        // The pass is out: only its holder can let the arm leave.
         Phase::F if view.out => {}
         // Every other arm leaves at once.
         Phase::F if arm % 2 == 0 => {
@@ -58,7 +58,7 @@ fn turn<D: Door>(gate: &mut Watched<D>, arm: usize)
     }
 }
 
-// Calls that only watch.
+// Calls that tell of the gate and alter nothing.
 pub fn watch<D: Door>(gate: &mut Watched<D>, arm: usize, other: usize)
     ensures { gate.new.gate ≡ gate.old.gate }
 {
@@ -69,7 +69,7 @@ pub fn watch<D: Door>(gate: &mut Watched<D>, arm: usize, other: usize)
     let _ = gate.same();
 }
 
-// A run in which at each turn an arm does what its phase asks for, and is watched.
+// A run of so many turns: at each, one arm does what its phase asks for, and the calls of `watch` are made of it.
 pub(crate) fn lively<D: Door>(gate: &mut Watched<D>, turns: u64)
     requires { 1 ≤ gate.old.gate.n }
     ensures { gate.new.gate ≡ run_of D.table turns gate.old.gate }
@@ -128,7 +128,8 @@ fn ask_wrongly<D: Door>(gate: &mut Watched<D>, arm: usize, phase: Phase)
     }
 }
 
-// Shows a gate the pass of another one, which is refused: the numbers differ.
+// Hands the pass of another gate to `confirm` and `leave` of this one, which says no and refuses, since the gate numbers differ. Then
+// spends it at its own gate.
 fn show_pass<D: Door>(gate: &mut Watched<D>, other: &mut Gate<BitBank, ThreeBits>)
     requires numbers { gate.old.gate.number ≢ other.old.number }
     requires inside { refusal_of three_bits other.old (Admit 1) ≡ None }
@@ -141,7 +142,7 @@ fn show_pass<D: Door>(gate: &mut Watched<D>, other: &mut Gate<BitBank, ThreeBits
     other.leave(pass).unwrap();
 }
 
-// A turn of the first arm of another gate. Inside, its pass is shown to the gate that is watched.
+// A turn of arm 1 of another gate. Where it is inside, its pass is handed to the gate that is watched, which refuses it.
 fn turn_of_other<D: Door>(gate: &mut Watched<D>, other: &mut Gate<BitBank, ThreeBits>)
     requires arm { is_arm other.old 1 ≡ true }
     requires numbers { gate.old.gate.number ≢ other.old.number }
@@ -156,7 +157,7 @@ fn turn_of_other<D: Door>(gate: &mut Watched<D>, other: &mut Gate<BitBank, Three
         Phase::D | Phase::W | Phase::X => {
             let _ = other.step(1);
         }
-        // Whoever has the pass lets the arm go.
+        // The pass is out: only its holder can let the arm leave.
         Phase::F if view.out => {}
         Phase::F => show_pass(gate, other),
     }
@@ -184,7 +185,7 @@ fn turn_after_refusals<D: Door>(
     turn(gate, arm);
 }
 
-// A run of such turns. It leads where a lively run does.
+// A run of so many turns, each of which begins with calls that are refused. The gate after it is the same as after `lively`.
 pub(crate) fn refused<D: Door>(
     gate: &mut Watched<D>,
     other: &mut Gate<BitBank, ThreeBits>,

@@ -23,7 +23,7 @@ day_moves = 700
 abbrev pub MovesMade : {At : Type 0} → Table At → ℕ → Dispatch At → Dispatch At → Type 0
 MovesMade door k d e = (rings : List (List ℕ)) × (length rings ≡ k) × (e ≡ after_moves door d rings)
 
--- the count of lost items once one more is put into a ring: a full one loses it, and the count stops at its highest
+-- the count of lost items once one more is put into a ring: a full ring loses it, and the count stops at its highest value
 abbrev pub lost_after : {X : Type 0} → Held X → ℕ → ℕ
 lost_after ring lost = if has_room ring.span ring.slots then lost else min (lost + 1) (2 ^ 32 - 1)
 
@@ -35,7 +35,7 @@ abbrev pub seen_inside : Option Phase → Bool
 seen_inside (Some P.F) = true
 seen_inside seen = false
 
--- a host at work: its dispatcher, the ring of the arms that are asked for, that of the readings, what the two lost so far, and how long arms waited
+-- a host: its dispatcher, the ring of the arms that are asked for, that of the readings, what the two lost so far, and how long arms waited
 pub record Host (At : Type 0) : Type 0 where
   pub dispatcher : Dispatch At
   pub asked : Held ℕ
@@ -52,7 +52,7 @@ module _ {At : Type 0} where
   with_ask None h = h
   with_ask (Some i) h = record h { asked = put_in i h.asked; lost = record h.lost { arms = lost_after h.asked h.lost.arms } }
 
-  -- a reading is put into the other one
+  -- a reading is put into its ring
   abbrev pub with_reading : Reading → Host At → Host At
   with_reading x h = record h { readings = put_in x h.readings; lost = record h.lost { readings = lost_after h.readings h.lost.readings } }
 
@@ -60,23 +60,23 @@ module _ {At : Type 0} where
   abbrev pub delivered : Option Phase → ℕ → ℕ → Host At → Host At
   delivered seen arm time h = if seen_inside seen then with_reading (reading_at arm time) h else h
 
-  -- the arm that was served is seen: its wait may begin or end, and its reading be delivered
+  -- the arm that was served is seen in this phase: its wait may begin or end, and its reading be delivered
   abbrev pub looked : Option Phase → ℕ → ℕ → Host At → Host At
   looked seen arm time h = delivered seen arm time (record h { waits = noted arm time seen h.waits })
 
 module _ {At : Type 0} (door : Table At) where
-  -- a move is made, and which arm it serves
+  -- the host after a move; and which arm the move serves
   abbrev pub after_move : Host At → Host At
   after_move h = record h { dispatcher = moved door h.dispatcher (items h.asked); asked = ring_after door h.dispatcher.gate h.asked }
 
   abbrev pub arm_served : Host At → ℕ
   arm_served h = served door h.dispatcher (items h.asked)
 
-  -- the phase in which an arm is; none where there is no such arm
+  -- the phase of an arm; none where the gate has no such arm
   abbrev pub phase_seen : State At → ℕ → Option Phase
   phase_seen s i = if is_arm s i then Some (phase_at door s i) else None
 
-  -- a turn: who asks then is put into the ring, a move is made, and the arm that was served is seen
+  -- a turn: the arm that asks is put into the ring, a move is made, and the arm that was served is looked at
   abbrev pub turned : ℕ → Host At → Host At
   turned time h =
       let asked : Host At = with_ask (asked_at time) h in

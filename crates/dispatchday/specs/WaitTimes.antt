@@ -7,11 +7,11 @@ use Rattle.gate_model.specs.declared.phase.Phase.TheVariants as P
 use Rattle.dispatchday.specs.Plant.{plant_arms}
 use Rattle.dispatchday.specs.declared.wait_times.WaitTimes.{WaitTimes}
 
--- no arm waits, and none waited; there is a place for each arm that a gate can have, by its number
+-- no arm waits, and none has waited; there is a place for each arm that a gate can have, by its number
 abbrev pub no_waits : WaitTimes
 no_waits = record { since = replicate (arm_limit + 1) None; longest = 0 }
 
--- the move at which the present wait of an arm began; none where it does not wait
+-- the move with which the present wait of an arm began; none where it does not wait
 abbrev pub since : WaitTimes → ℕ → Option ℕ
 since w arm = slice_index_or w.since arm None
 

@@ -36,14 +36,14 @@ pub fn day<B: Bank, D: Door>(
     (lost, waits)
 }
 
-// The phase in which an arm is by now; none where there is no such arm.
+// The phase of an arm; none where the gate has no such arm.
 fn phase_seen<B: Bank, D: Door>(dispatcher: &Dispatcher<B, D>, arm: usize) -> Option<Phase>
     ensures { result ≡ phase_seen D.table dispatcher.now.gate arm }
 {
     dispatcher.gate().phase(arm).ok()
 }
 
-// Whether an arm that is seen in this phase is inside: its reading is then due.
+// Whether an arm that is seen in this phase is inside, so that its reading is to be delivered.
 fn seen_inside(seen: Option<Phase>) -> bool
     ensures { result ≡ seen_inside seen }
 {

@@ -1,10 +1,11 @@
-//! A day at a plant, by a host of the dispatcher: arms that are asked for wait in one ring, readings that were delivered in another.
-//! It prints the readings in the order in which they came, what the full rings lost, and how long an arm waited at most; of a day through each door.
+//! A day at a plant, by a host of the dispatcher: one ring holds the arms that are asked for, another the readings that were delivered.
+//! Of a day through each door it prints how many readings were kept, what the full rings lost, the longest wait of an arm, and the readings
+//! in the order in which they were delivered.
 #![tactic(auto)]
 
 // What the plant asks for, and what its probes show.
 mod plant;
-// How long arms wait, and how long they can.
+// How long arms wait, and how long the law of moves lets them wait.
 mod wait_times;
 // The host, with a dispatcher.
 mod host;
@@ -25,14 +26,14 @@ const REGISTERS: usize = 3 * ARMS + 1;
 
 const REGISTERS_FOUR_VALUED: usize = ARMS + 1;
 
-// How many arms wait to be begun at most, and how many readings to be sent.
+// How many arms fit into the ring of those that are asked for, and how many readings into theirs.
 const ASKED: usize = 4;
 
 const READINGS: usize = 24;
 
 const NO_READING: Reading = Reading { arm: 0, tenths: 0 };
 
-// Shows what a day through a door left, and takes the readings out in the order in which they were delivered.
+// Prints what a day through a door left, and takes the readings out in the order in which they were delivered.
 fn show<D: Door>(
     rt: &HostRuntime,
     readings: &mut Ring<Reading>,

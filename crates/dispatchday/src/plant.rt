@@ -24,7 +24,8 @@ pub const NOTHING_LOST: Lost = Lost {
     readings: 0,
 };
 
-// The arm that asks for a visit at a time, every twelfth move; each seventh is one that the plant does not have.
+// The arm that asks for a visit before the move of a time: one before every twelfth move. Each seventh of them is arm 7, which the plant
+// does not have.
 pub fn asks(time: u32) -> Option<usize>
     ensures { result ≡ asked_at time }
 {
@@ -35,7 +36,7 @@ pub fn asks(time: u32) -> Option<usize>
     }
 }
 
-// What an arm's probe shows at a time: from -20.0 to 79.9 degrees.
+// The reading of an arm after the move of a time: from -20.0 to 79.9 degrees Celsius.
 pub fn measure(arm: usize, time: u32) -> Reading
     ensures arm { result.arm ≡ arm }
     ensures tenths { result.tenths ≡ pos (shown_at arm time) -ℤ pos 200 }

@@ -9,10 +9,10 @@ use gate_model::arm::ARM_LIMIT;
 // A place for each arm that a gate can have, by its number.
 const PLACES: usize = ARM_LIMIT + 1;
 
-// How long arms wait, in moves: from the one after which an arm is first seen to wait to the one after which it is seen inside.
+// How long arms wait, in moves: from the move after which an arm is first seen to wait to the move after which it is seen inside.
 #[derive(Drop)]
 pub struct WaitTimes {
-    // The move at which the present wait of each arm began.
+    // The move with which the present wait of each arm began; none of an arm that does not wait.
     since: [Option<u32>; PLACES],
     // The longest wait that has ended.
     pub longest: u32,
@@ -42,7 +42,7 @@ impl WaitTimes {
         }
     }
 
-    // The move at which the present wait of an arm began.
+    // The move with which the present wait of an arm began; none where it does not wait.
     fn since(&self, arm: usize) -> Option<u32>
         ensures { result ≡ since self.now arm }
     {

@@ -15,7 +15,7 @@ pub found_yes : (p : ℕ → Bool) (xs : List ℕ) (c : ℕ) → find p xs ≡ S
 found_yes p [] c e = grind arith
 found_yes p (x ∷ xs) c e = let more = found_yes p xs c in grind arith
 
--- the first of a range that passes, before any rest; or none of the range passes
+-- the first number of a range that passes the test is found, whatever follows the range; or none of the range passes
 pub first_part : (p : ℕ → Bool) (a k : ℕ) (rest : List ℕ)
     → ((c : ℕ) × (find p (range_with_len a k ++ rest) ≡ Some c) × (a ≤ c) × (c < a + k) × ((b : ℕ) → a ≤ b → T (p b) → c ≤ b))
     ⊎ ((find p (range_with_len a k ++ rest) ≡ find p rest) × ((b : ℕ) → a ≤ b → T (p b) → a + k ≤ b))
@@ -30,7 +30,7 @@ first_part p a (suc k) rest = elim (test (p a)) [
       ])
 ]
 
--- a place between is nearer, before the end and past it
+-- where c comes no later than b in cyclic order: c is b, or b is fewer places ahead of c than of the one served last; in three cases
 nearer_low : (n last b c : ℕ) → last < c → c ≤ b → (c ≡ b) ⊎ (places_ahead n c b < places_ahead n last b)
 nearer_low n last b c lo hi = grind (arith, nat_tests)
 
@@ -40,7 +40,7 @@ nearer_high n last b c low lo hi some = grind (arith, nat_tests)
 nearer_round : (n last b c : ℕ) → last ≤ n → b ≤ last → 1 ≤ c → c ≤ b → (c ≡ b) ⊎ (places_ahead n c b < places_ahead n last b)
 nearer_round n last b c within low lo hi = grind (arith, nat_tests)
 
--- an arm that passes is found, or another that comes before it
+-- an arm that passes the test is found, or another that comes before it
 pub in_line_found : (p : ℕ → Bool) (n last b : ℕ) → last ≤ n → 1 ≤ b → b ≤ n → T (p b)
     → (c : ℕ) × (find p (in_turn n last) ≡ Some c) × ((c ≡ b) ⊎ (places_ahead n c b < places_ahead n last b))
 in_line_found p n last b within lo hi h = elim (first_part p (last + 1) (n - last) (range_with_len 1 last)) [
@@ -63,6 +63,6 @@ in_line_found p n last b within lo hi h = elim (first_part p (last + 1) (n - las
   ]
 ]
 
--- every place comes within n
+-- every arm is at least one place ahead, and at most n
 pub ahead_few : (n last b : ℕ) → last ≤ n → b ≤ n → 1 ≤ b → (1 ≤ places_ahead n last b) × (places_ahead n last b ≤ n)
 ahead_few n last b within hi lo = grind (arith, nat_tests)

@@ -48,7 +48,7 @@ module _ {At : Type 0} (door : Table At) (w : ℕ) where
         | inr y ↦ subst (λ s. T (is_in door P.F s w)) (sym (run_append door (opening asked) served d.gate)) (serving_enters (opened door d asked) (in_line door d asked) y)
       ]
 
-  -- so of any moves by whose calls an arm goes inside, it is inside after one
+  -- an arm that goes inside by the calls of some moves is inside after one of these moves
   pub inside_after_moves : (rings : List (List ℕ)) (d : Dispatch At) → GoesInside door w d.gate (calls_of_moves door d rings) → SeenInside door w d rings
   inside_after_moves [] d h = elim h [ ]
   inside_after_moves (asked ∷ more) d h = elim (inside_append (calls_of_move door d asked) (calls_of_moves door (moved door d asked) more) d.gate h) [

@@ -1,7 +1,7 @@
--- what a call leaves of other arms: their marks, and that they are not idle
+-- no pass is out between two moves; an arm that is not idle moves at a call or stays not idle
 mod NoPassOut
 mod Busy
--- who is next
+-- which arm is served next
 mod CyclicOrder
 -- an arm that goes inside in a move is inside after it
 mod InsideAfterMove
@@ -9,5 +9,5 @@ mod InsideAfterMove
 mod Served
 -- the calls of a move, put together
 mod MoveByCalls
--- a move more
+-- k moves and one more are k + 1 moves
 pub mod OneMoveMore

@@ -34,7 +34,7 @@ module _ {At : Type 0} (door : Table At) where
   busy_in : (s : State At) (b : ℕ) → T (is_busy door s b) → (1 ≤ b) × (b ≤ s.n)
   busy_in s b h = arm_in s b (and_T (is_arm s b) (not (is_in door P.I s b)) h).0
 
-  -- calls lead on
+  -- after more calls a state is still one that calls lead to
   reached_run : (cs : List Call) (s : State At) → IsReached door s → IsReached door (run door s cs)
   reached_run = run_holds door (IsReached door) (λ s c. reached_after door s c (after door s c) refl)
 
@@ -94,7 +94,7 @@ module _ {At : Type 0} (door : Table At) where
   pub led : (d : Dispatch At) (asked : List ℕ) (e : Dispatch At) → e ≡ moved door d asked → IsDispatcher door d → IsDispatcher door e
   led d asked e same ready = subst (IsDispatcher door) (sym same) (ready_after d asked ready)
 
-  -- within as many moves as it is places away
+  -- an arm that is not idle moves within as many moves as it is places ahead
   served_within : (rings : List (List ℕ)) (d : Dispatch At) (b : ℕ) → IsDispatcher door d → T (is_busy door d.gate b) → places_ahead d.gate.n d.last b ≤ length rings → Moves door b d.gate (calls_of_moves door d rings)
   served_within [] d b ready h few = let r = busy_in d.gate b h in absurd (omega (arith, few, (ahead_few d.gate.n d.last b ready.within r.1 r.0).0))
   served_within (asked ∷ more) d b ready h few = elim (served_or_nearer d asked ready b h) [

@@ -19,7 +19,7 @@ module _ {At : Type 0} (door : Table At) where
   abbrev pub NoPassOut : State At → Type 0
   NoPassOut s = (i : ℕ) → (arm_at door s i).out ≡ false
 
--- it served one of its arms last, no pass is out between two moves, and only a making and calls lead to its gate
+-- it served one of its arms last or none yet, no pass is out, and a making and a list of calls lead to its gate
 pub record IsDispatcher {At : Type 0} (door : Table At) (d : Dispatch At) : Type 0 where
   pub within : d.last ≤ d.gate.n
   pub spent : NoPassOut door d.gate

@@ -9,17 +9,17 @@ use Rattle.dispatcher.specs.Dispatchers.{Dispatch}
 use Rattle.dispatcher.specs.Moves.{calls_of_move, moved}
 
 module _ {At : Type 0} (door : Table At) where
-  -- moves that get rings of these arms, one after another: where they lead
+  -- the dispatcher after some moves; each move gets the ring of one of these lists of arms
   abbrev pub after_moves : Dispatch At → List (List ℕ) → Dispatch At
   after_moves d [] = d
   after_moves d (asked ∷ more) = after_moves (moved door d asked) more
 
-  -- and by which calls
+  -- the calls that these moves make on the gate
   abbrev pub calls_of_moves : Dispatch At → List (List ℕ) → List Call
   calls_of_moves d [] = []
   calls_of_moves d (asked ∷ more) = calls_of_move door d asked ++ calls_of_moves (moved door d asked) more
 
-  -- moves do nothing but these calls to the gate
+  -- moves do nothing to the gate but make these calls
   abbrev pub OnlyCalls : Dispatch At → Type 0
   OnlyCalls d = (rings : List (List ℕ)) → (after_moves d rings).gate ≡ run door d.gate (calls_of_moves d rings)
 
@@ -36,11 +36,11 @@ module _ {At : Type 0} (door : Table At) where
   abbrev pub InsideWithinMoves : ℕ → Dispatch At → Type 0
   InsideWithinMoves k d = (w : ℕ) → Waits door d.gate w → (rings : List (List ℕ)) → length rings ≡ d.gate.n * k → GoesInside door w d.gate (calls_of_moves d rings)
 
-  -- arm w is inside once some of these moves are made, as the gate then stands
+  -- arm w is inside in the gate as it stands after a first part of these moves
   abbrev pub SeenInside : ℕ → Dispatch At → List (List ℕ) → Type 0
   SeenInside w d rings = (first : List (List ℕ)) × (rest : List (List ℕ)) × (rings ≡ first ++ rest) × T (is_in door P.F (after_moves d first).gate w)
 
-  -- so a waiting arm is seen inside after one of the next n (50 n + 10) moves
+  -- a waiting arm is seen inside after one of the next n (50 n + 10) moves
   abbrev pub SeenByMoves : Dispatch At → Type 0
   SeenByMoves d = (w : ℕ) → Waits door d.gate w → (rings : List (List ℕ)) → length rings ≡ d.gate.n * (50 * d.gate.n + 10) → SeenInside w d rings
 
@@ -54,9 +54,9 @@ pub record LawOfMoves {At : Type 0} (door : Table At) (d : Dispatch At) : Type 0
   pub served : AllServed door d
   pub inside : InsideByMoves door d
   pub seen : SeenByMoves door d
-  -- already by one of the next n (8 n + 20) moves
+  -- the same two of the next n (8 n + 20) moves
   pub inside_sooner : InsideWithinMoves door (8 * d.gate.n + 20) d
   pub seen_sooner : SeenWithinMoves door (8 * d.gate.n + 20) d
-  -- and by n times as many as the door names rounds
+  -- the same two of n times as many moves as the door names rounds
   pub inside_by_door : InsideWithinMoves door (door.rounds d.gate.n) d
   pub seen_by_door : SeenWithinMoves door (door.rounds d.gate.n) d

@@ -19,14 +19,14 @@ abbrev pub opening : List ℕ → List Call
 opening [] = []
 opening (i ∷ more) = begin i ∷ []
 
--- by what begin answers, whether that head is then taken off: it is begun, or refused with 1 or 5
+-- whether the head is taken off, by what begin answers: it is begun, or refused with 1 or 5
 abbrev pub goes_off : Result Phase Refusal → Bool
 goes_off (Ok p) = true
 goes_off (Err R.NoArm) = true
 goes_off (Err R.Worn) = true
 goes_off (Err r) = false
 
--- the arms of n in cyclic order after the one served last
+-- the arms 1 to n in cyclic order after the one served last
 abbrev pub in_turn : ℕ → ℕ → List ℕ
 in_turn n last = range_with_len (last + 1) (n - last) ++ range_with_len 1 last
 
@@ -40,7 +40,7 @@ last_after last None = last
 last_after last (Some i) = i
 
 module _ {At : Type 0} (door : Table At) where
-  -- what is asked for after the head was begun, or not; and the ring
+  -- whether the head of the ring is taken off; then the arms in the ring, and the ring itself, after that
   abbrev pub head_goes : State At → List ℕ → Bool
   head_goes s [] = false
   head_goes s (i ∷ more) = goes_off (answered (refusal_of door s (begin i)) P.D)
@@ -51,7 +51,7 @@ module _ {At : Type 0} (door : Table At) where
   abbrev pub ring_after : State At → Held ℕ → Held ℕ
   ring_after s r = if head_goes s (items r) then taken r else r
 
-  -- an arm that is not idle, and one inside
+  -- whether arm i is one of the gate's and not idle; whether it is inside
   abbrev pub is_busy : State At → ℕ → Bool
   is_busy s i = is_arm s i && not (is_in door P.I s i)
 

@@ -26,7 +26,7 @@ impl<B: Bank, D: Door> Model for Dispatcher<B, D> {
 }
 
 impl<B: Bank, D: Door> Dispatcher<B, D> {
-    /// A dispatcher with a gate of its own over a bank; with the wanted arm count, or as many as the door has room for there, up to the limit of a gate.
+    /// Makes a dispatcher with a gate of its own over a bank. The gate is just the one that `Gate::make` makes, with the same arm count.
     /// It cannot be refused.
     pub fn new(bank: B, number: u16, wanted: usize) -> Dispatcher<B, D>
         ensures { result ≡ started D.table (record { memory = B.memory bank; high = B.HIGHEST; number = number; wanted = wanted; regs = B.values bank }) }
@@ -35,7 +35,7 @@ impl<B: Bank, D: Door> Dispatcher<B, D> {
         Dispatcher { gate, last: 0 }
     }
 
-    /// The gate, to look at: every call on it that alters nothing can be made.
+    /// Lends the gate. Every call that alters nothing can be made on it, as in `dispatcher.gate().phase(arm)`.
     pub fn gate(&self) -> &Gate<B, D>
         ensures gate { result.now ≡ self.now.gate }
         ensures law { LawOfMoves D.table self.now }
@@ -43,7 +43,7 @@ impl<B: Bank, D: Door> Dispatcher<B, D> {
         &self.gate
     }
 
-    /// Ends the dispatcher and hands its gate over as it stands, with no pass out.
+    /// Ends the dispatcher and hands its gate over as it stands, with no pass out. The bank comes back by `into_bank` of the gate.
     pub fn stop(self) -> Gate<B, D>
         ensures gate { result ≡ self.gate }
         ensures spent { NoPassOut D.table result }

@@ -12,7 +12,7 @@ use gate::Gate;
 use gate_model::{Phase, Refusal};
 use ring::Ring;
 
-// Whether the head of the ring is taken off, by what begin answered: it is begun, or cannot be. A busy one stays.
+// Whether the head of the ring is taken off, by what `begin` answered: it is begun, or refused with 1 or 5. One refused with 2 (busy) stays.
 fn goes_off(begun: Result<Phase, Refusal>) -> bool
     ensures { result ≡ goes_off begun }
 {
@@ -47,7 +47,7 @@ fn is_inside<B: Bank, D: Door>(gate: &Gate<B, D>, arm: usize) -> bool
     matches!(gate.phase(arm), Ok(Phase::F))
 }
 
-// The first arm not idle in cyclic order after the last one.
+// The first arm that is not idle in cyclic order after arm `last`; from arm 1 on where `last` is 0.
 fn first_busy<B: Bank, D: Door>(gate: &Gate<B, D>, last: usize) -> Option<usize>
     requires { last ≤ gate.now.n }
     ensures { result ≡ first_busy D.table gate.now last }
@@ -61,7 +61,7 @@ fn first_busy<B: Bank, D: Door>(gate: &Gate<B, D>, last: usize) -> Option<usize>
     )
 }
 
-// Serves an arm: one inside is let go, that is admitted and left; any other is stepped.
+// Serves an arm: one inside is let go, any other makes its next step.
 fn serve<B: Bank, D: Door>(gate: &mut Gate<B, D>, arm: usize)
     requires busy { IsTrue (is_busy D.table gate.old arm) }
     requires spent { NoPassOut D.table gate.old }
@@ -75,9 +75,10 @@ fn serve<B: Bank, D: Door>(gate: &mut Gate<B, D>, arm: usize)
 }
 
 impl<B: Bank, D: Door> Dispatcher<B, D> {
-    /// Makes one move. It begins the arm at the head of the ring, which is then taken off; a busy one stays.
-    /// Then it serves the first arm not idle after the one served last, around the end: an arm inside is admitted and left, any other is stepped.
-    /// Answers the arm served, or 0 where all are idle. It is never refused, and makes one register access at most.
+    /// Makes one move. It begins the arm at the head of the ring. A head that is begun is taken off, and so is one that the gate refuses
+    /// with 1 or 5; a busy one (2) stays, and with it all behind it.
+    /// Then it serves the first arm that is not idle in cyclic order after the one served last: an arm inside is let go, any other makes
+    /// its next step. Answers the arm served, or 0 where all are idle. It is never refused, and makes one register access at most.
     pub fn make_move(&mut self, asked: &mut Ring<usize>) -> usize
         ensures answer { result ≡ served D.table self.old (items asked.old) }
         ensures after { self.new ≡ moved D.table self.old (items asked.old) }

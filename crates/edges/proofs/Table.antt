@@ -129,9 +129,9 @@ note_test idle c = same_bool idle c.idle
 played : (file memory : List ℕ) → leb (length file) file_limit ≡ true → report_room ≤ length memory → playable file (length memory) ≡ says file
 played file memory short room = cond-true _ _ _ short ∙ cond-true _ _ _ (le-leb report_room (length memory) room)
 
--- of a door, and a bank under it
+-- of a door and a bank
 module _ {At : Type 0} (door : Table At) (highest : ℕ) (registers : List ℕ) where
-  -- what a play leaves is the text
+  -- whether the report of a play is the text
   abbrev report_test : Lent → List ℕ → Contents → Bool
   report_test lent text c = bytes_eq (play_text door lent highest registers c) text
 
@@ -152,7 +152,7 @@ module _ {At : Type 0} (door : Table At) (highest : ℕ) (registers : List ℕ) 
   test lent (notes s w b idle) = ok_test (note_test idle) (tally_answer door s w b)
   test lent (turned s times) = eqb s.turns times
 
-  -- and comes to its report
+  -- such a play leaves this text as its report
   same_report : (lent : Lent) (file text memory : List ℕ) (r : Result Contents PlayFault)
       → ok_test (report_test lent text) r ≡ true → playable file (length memory) ≡ r → Plays door highest registers lent file text memory
   same_report lent file text memory r t e =

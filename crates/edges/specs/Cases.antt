@@ -1,4 +1,4 @@
--- The edge cases: what each kind of case claims, of any door and any bank under it.
+-- The edge cases: what each kind of case claims, of any door and any bank.
 use Rattle.std.specs.Prelude.{◌≡◌, ℕ, ◌<◌, ◌≤◌, Bool, false, List, [], length, Some, None, Ok, Err, codes, slice_index_or}
 use Prim.Native.String.{String}
 use Rattle.schedule.specs.Faults.{fault_number, fault_place, fault_order, fault_layer}
@@ -41,7 +41,7 @@ pub data Case (At : Type 0) : Type 0 where
   -- a gate and a call: accepted, or refused with a number
   accepts : State At → Call → Case At
   refuses : State At → Call → ℕ → Case At
-  -- a gate and a waiting arm: whether its way is free
+  -- a gate and a waiting arm: whether the arm has right of way
   frees : State At → ℕ → Bool → Case At
   -- a gate, an arm and another: how often the other went inside while it last waited
   counts : State At → ℕ → ℕ → ℕ → Case At
@@ -54,13 +54,13 @@ pub data Case (At : Type 0) : Type 0 where
 abbrev pub Faulty : List ℕ → (PlayFault → Type 0) → Type 0
 Faulty file P = (fault : PlayFault) × (says file ≡ Err fault) × P fault
 
--- of a door, and a bank under it: its highest value, and its registers before the gate is made
+-- of a door and a bank: the bank's highest value, and its registers before a gate is made over it
 module _ {At : Type 0} (door : Table At) (highest : ℕ) (registers : List ℕ) where
   -- a gate over the bank after the orders of a file
   abbrev pub gate_after : ℕ → List ℕ → State At
   gate_after arms file = obeyed_by door (says file) (made door (record { memory = unlogged 0; high = highest; number = 0; wanted = arms; regs = registers }))
 
-  -- a gate whose arm 1 has begun so many visits and is idle
+  -- a gate of one arm, which has begun so many visits and is idle
   abbrev pub gate_visited : ℕ → State At
   gate_visited visits = with_arm 1 (with_visit door.idle visits false (fresh door)) (made door (record { memory = unlogged 0; high = highest; number = 0; wanted = 1; regs = registers }))
 

@@ -8,7 +8,7 @@ use Rattle.gate_model.specs.declared.call.Call.TheVariants.{Begin as begin, Way 
 use Rattle.edges.specs.Cases as C
 use Rattle.edges.specs.Cases.{Case, plays, accepts, refuses, frees, counts, notes, turned}
 
--- what differs: the first at the three-bit door, the second at the four-valued one
+-- the first of two at the three-bit door, the second at the four-valued one
 abbrev by_kind : {X : Type 0} → Kind → X → X → X
 by_kind three_bits x y = x
 by_kind four_valued x y = y
@@ -19,7 +19,7 @@ module _ (kind : Kind) where
   abbrev doorway : ℕ
   doorway = by_kind kind 5 3
 
-  -- and how many it takes to go inside where arm 2 does so again
+  -- how many steps arm 2 of three makes in W, in its second visit, until it is inside
   abbrev waiting : ℕ
   waiting = by_kind kind 10 9
 
@@ -28,7 +28,7 @@ module _ (kind : Kind) where
   two_arms =
       0x02 ∷ 0x04 ∷ replicate doorway 0x05 ++ 0x08 ∷ replicate doorway 0x09 ++ replicate 6 0x05 ++ 0x06 ∷ replicate 3 0x05
 
-  -- the same two arms wait
+  -- two arms wait on side 0
   abbrev both_wait : List ℕ
   both_wait = 0x02 ∷ 0x04 ∷ replicate doorway 0x05 ++ 0x08 ∷ replicate doorway 0x09
 
@@ -36,11 +36,11 @@ module _ (kind : Kind) where
   abbrev both_inside : List ℕ
   both_inside = both_wait ++ replicate 6 0x05 ++ replicate 6 0x09
 
-  -- or 1 is told to leave before 2 goes inside
+  -- or 1 goes inside and is let go, and then 2 goes inside
   abbrev past_leaving : List ℕ
   past_leaving = both_wait ++ replicate 6 0x05 ++ 0x06 ∷ replicate 6 0x09
 
-  -- where both are inside, both leave
+  -- after both went inside, both leave
   abbrev both_gone : List ℕ
   both_gone = both_inside ++ 0x06 ∷ 0x05 ∷ 0x05 ∷ 0x0A ∷ 0x09 ∷ 0x09 ∷ []
 
@@ -76,11 +76,11 @@ module _ (kind : Kind) where
   abbrev turned_back : List ℕ
   turned_back = two_again ++ 0x0A ∷ 0x09 ∷ []
 
-  -- a report, whose orders are first those at the three-bit door, then those at the four-valued one
+  -- a report: its text before the count of orders, that count at the three-bit door and at the four-valued one, and its text after it
   abbrev report : String → String → String → String → String
   report head at_three at_four rest = head then (by_kind kind at_three at_four then rest)
 
-  -- of the door itself, and a bank under it
+  -- of the door itself and a bank
   module _ {At : Type 0} (door : Table At) (highest : ℕ) (registers : List ℕ) where
     abbrev gate_after : ℕ → List ℕ → State At
     gate_after = C.gate_after door highest registers

@@ -3,7 +3,7 @@ ghost use Rattle.edges.specs.EveryCase.{EveryCase};
 ghost use Rattle.edges.specs.ThreeBitCases as T;
 ghost use Rattle.edges.specs.FourValuedCases as V;
 
-// Does nothing; that each edge case holds is proved of it.
+// Does nothing: it is there for its contract, that each edge case holds.
 fn each_holds()
     ensures { EveryCase }
 {}

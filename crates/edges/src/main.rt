@@ -1,6 +1,6 @@
 //! Prints how many edge cases are proved. Then plays the schedule files that its arguments name, and prints what came of each:
-//! the report or the fault line; whether a byte bank ends in the same text; the fault with one byte too little of memory;
-//! whether the orders that were read are written as the same file again.
+//! the report or the fault line; whether a play over a byte bank has the same text; the number of the fault with report memory that is
+//! one byte too short; whether the orders that were read are written as the same file again.
 //! At the end it plays one file through the four-valued door.
 #![tactic(auto)]
 
@@ -28,13 +28,13 @@ const REGISTERS: usize = 3 * ARM_LIMIT + 1;
 // Registers for the most arms of the four-valued door: the group, and the state of each.
 const STATES_AND_GROUP: usize = ARM_LIMIT + 1;
 
-// Three arms: 3 goes inside past 2, and 2 twice past 1, by the steps of the four-valued door.
+// A file of three arms for the four-valued door: 3 goes inside while 2 waits, and then 2 twice while 1 waits.
 const TWICE_PAST: [u8; 42] = [
     3, 8, 9, 9, 9, 12, 13, 13, 13, 13, 13, 13, 13, 13, 13, 13, 13, 13, 14, 13, 13, 4, 5, 5, 5, 9,
     10, 9, 9, 8, 9, 9, 9, 9, 9, 9, 9, 9, 9, 9, 9, 9,
 ];
 
-// The length of the text that a play left in memory; of a fault, its line is put there first.
+// The length of the text that a play left in memory: the report, or the fault line, which is put there now.
 fn text_length<B: Drop, G>(
     played: Played<B, G>,
     service: u8,
@@ -59,7 +59,7 @@ fn print_text(rt: &HostRuntime, memory: &[u8], length: usize) -> anyhow::Result<
     Ok(())
 }
 
-// The number of the fault with too little memory.
+// The number of the fault of a play with report memory that is one byte too short.
 fn short_of_memory(file: &[u8]) -> anyhow::Result<u8> {
     let mut memory = [0; TOO_LITTLE];
     let mut service = SERVICE;
@@ -69,7 +69,7 @@ fn short_of_memory(file: &[u8]) -> anyhow::Result<u8> {
     }
 }
 
-// Reads a file and writes its orders again.
+// Reads a file and writes its orders again. Answers whether that is the same file; none where the file has a fault.
 fn written_again(file: &[u8]) -> &'static str {
     let mut orders = [Order::Begin(0); FILE_LIMIT];
     let Ok(heading) = read(file, &mut orders) else {

@@ -19,7 +19,7 @@ module _ {At : Type 0} (door : Table At) where
     reached = reached;
   }
 
-  -- after one call more
+  -- after one more call it is still a gate in hand
   pub after_call : (v s t : State At) (c : Call) → IsGate door v → v ≡ s → t ≡ after door s c → IsGate door t
   after_call v s t c gate is e = in_hand t (reached_after door s c t e (subst (IsReached door) is gate.reached))
 

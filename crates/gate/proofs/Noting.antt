@@ -16,7 +16,7 @@ module _ {At : Type 0} (door : Table At) (old : List (Arm At)) (k : ℕ) where
   abbrev noted : List Bool → List (Arm At)
   noted t = set old k (with_row (replicate arm_limit 0) t (get_or old k (no_arm door)))
 
-  -- the places below j tell who is idle, the others say so
+  -- the notes below j tell which arms are idle; the others are still all true
   abbrev notes_to : ℕ → List Bool
   notes_to zero = replicate arm_limit true
   notes_to (suc j) = set (notes_to j) j (is_idle door (get_or old j (no_arm door)))
@@ -35,7 +35,7 @@ module _ {At : Type 0} (door : Table At) (old : List (Arm At)) (k : ℕ) where
       (λ ne. get_or-set_other (notes_to j) j m _ false ne ∙ notes_tell j m lt (λ le. rest (omega (arith, ne, le))))
       (cases_eq m j)
 
-  -- all of the gate's, and those past them are idle
+  -- once the notes of all arms of the gate are made, the row has started: the records past them are idle
   pub noting_ends : (j : ℕ) (arms : List (Arm At)) (n : ℕ) → length old ≡ arm_limit → Noting j arms → n ≤ j → ((m : ℕ) → n ≤ m → door.phase (get_or old m (no_arm door)).position ≡ P.I)
       → arms ≡ row_started door k old
   noting_ends j arms n full e past rest =
@@ -49,7 +49,7 @@ module _ {At : Type 0} (door : Table At) (old : List (Arm At)) (k : ℕ) where
         let here' : k < length arms = rw (ap length e ∙ length-set old k _) here in
         sym is ∙ get_or_read arms k a here' is (no_arm door) ∙ ap (λ x. get_or x k (no_arm door)) e ∙ get_or-set_same old k _ (no_arm door) here
 
-    -- and written over once more
+    -- the record put back with other notes
     over : (arms : List (Arm At)) (t t' : List Bool) (a : Arm At) → arms ≡ noted t → a ≡ get_or arms k a → set arms k (record (get_or arms k a) { notes = t' }) ≡ noted t'
     over arms t t' a e is =
         ap (λ x. set x k (record (get_or arms k a) { notes = t' })) e ∙ set-set old k _ _ ∙ ap (λ x. set old k (record x { notes = t' })) (record_read arms t a e is)
@@ -60,7 +60,7 @@ module _ {At : Type 0} (door : Table At) (old : List (Arm At)) (k : ℕ) where
     noting_begins zeroed a b e is is' = over zeroed (get_or old k a).notes (replicate arm_limit true) b
         (e ∙ ap (λ x. set old k (record x { row = replicate arm_limit 0; notes = (get_or old k a).notes })) (sym is ∙ get_or_read old k a here is (no_arm door))) is'
 
-    -- one more
+    -- one more note
     pub noting_goes_on : (j : ℕ) (arms : List (Arm At)) (a : Arm At) (v : Bool) → Noting j arms → a ≡ get_or arms k a → v ≡ is_idle door (get_or arms j (no_arm door))
         → Noting (j + 1) (set arms k (record (get_or arms k a) { notes = set (get_or arms k a).notes j v }))
     noting_goes_on j arms a v e is told =

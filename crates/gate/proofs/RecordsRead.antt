@@ -1,4 +1,4 @@
--- What tally tells, of the records that it read.
+-- What follows from the records that a call has read.
 use Rattle.std.proofs.Common.{◌≡◌, ℕ, ◌-◌, ◌≤◌, false, not, ◌&&◌, T, get_or, Some, None, Option, Ok, Result, OnOk, refl, arith}
 use Rattle.std.proofs.lemmas.Bool.Decides.{nat_tests}
 use Rattle.gate_model.specs.Calls.{refusal_of, answered}

@@ -14,7 +14,7 @@ use Rattle.gate.specs.declared.gate.View.{View}
 use Rattle.gate.specs.declared.pass.HandedBack.{HandedBack}
 use Rattle.gate.specs.declared.pass.Pass.{Pass}
 
--- a pass that is refused is handed back
+-- the answer of a leave: X, or the pass handed back with the refusal
 abbrev pub handed_back : Pass → Option Refusal → Result Phase HandedBack
 handed_back p None = Ok P.X
 handed_back p (Some r) = Err (record { pass = p; refusal = r })
@@ -25,7 +25,7 @@ largest_count row zero = 0
 largest_count row (suc b) = max (largest_count row b) (slice_index row b)
 
 module _ {At : Type 0} (door : Table At) where
-  -- the record of an arm, for a call that is accepted
+  -- the record of arm i where the call is accepted, else the refusal
   abbrev pub record_for : State At → Call → ℕ → Result (Arm At) Refusal
   record_for s c i = answered (refusal_of door s c) (arm_at door s i)
 
@@ -59,6 +59,6 @@ module _ {At : Type 0} (door : Table At) where
   abbrev pub tally_answer : State At → ℕ → ℕ → Result Tally Refusal
   tally_answer s w b = answered (refusal_of door s (tally w b)) (tally_of (arm_at door s w) b)
 
-  -- the most that any arm went inside while arm w last waited
+  -- the largest count of the row of arm w
   abbrev pub most_answer : State At → ℕ → Result ℕ Refusal
   most_answer s w = answered (refusal_of door s (look w)) (largest_count (arm_at door s w).row s.n)

@@ -8,7 +8,7 @@ use Rattle.gate_model.specs.States.{State}
 use Rattle.gate_model.specs.declared.arm.Arm.{Arm}
 use Rattle.gate_model.specs.declared.phase.Phase.TheVariants as P
 
--- only a making and calls lead to it
+-- no more arms than the limit, as many records as the limit, and a making and a list of calls lead to it
 pub record IsGate {At : Type 0} (door : Table At) (s : State At) : Type 0 where
   pub few : s.n ≤ arm_limit
   pub full : length s.arms ≡ arm_limit

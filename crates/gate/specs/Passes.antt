@@ -11,7 +11,7 @@ use Rattle.gate.specs.declared.pass.HandedBack.{HandedBack}
 use Rattle.gate.specs.declared.pass.Pass.{Pass}
 
 -- whether the pass with this gate number and arm is out: what confirm answers
--- (not an abbreviation, so that the passes of two states are compared whole)
+-- (not an abbreviation, so that the passes of two states are compared as whole functions)
 unfoldable pub passes_out : {At : Type 0} → Table At → State At → ℕ → ℕ → Bool
 passes_out door s gate arm = knows door s gate arm
 
@@ -24,7 +24,7 @@ abbrev pub with_given : Result Pass Refusal → (ℕ → ℕ → Bool) → ℕ �
 with_given (Ok p) out gate arm = out gate arm || names p gate arm
 with_given (Err r) out gate arm = out gate arm
 
--- all but one
+-- the passes that are out, without this one
 abbrev pub without : Pass → (ℕ → ℕ → Bool) → ℕ → ℕ → Bool
 without p out gate arm = out gate arm && not (names p gate arm)
 

@@ -12,7 +12,8 @@ use doors::Door;
 use gate_model::Call;
 
 impl<B: Bank, D: Door> Gate<B, D> {
-    // Makes one call; what it answers is let go, and a pass is known by its number.
+    // Makes one call of a list and drops its answer. No pass is kept: one that admit gives is ended, and one that the list names is made
+    // for its call only.
     fn carry(&mut self, call: Call)
         ensures { self.new ≡ after D.table self.old call }
     {
@@ -50,8 +51,8 @@ impl<B: Bank, D: Door> Gate<B, D> {
     }
 }
 
-/// Makes a gate over a bank and carries out the calls, one after another. A pass is known by its gate number and arm;
-/// the passes that the list admits are ended here, so an arm that it leaves inside can leave by a later call of the same list only.
+/// Makes a gate over a bank as `Gate::make` does, and makes the calls of the list on it, one after another; a refused call alters nothing.
+/// The list names a pass by gate number and arm, and no pass is handed out: an arm that the list admits can leave only by a leave of the same list.
 pub fn carry_out<B: Bank, D: Door>(
     bank: B,
     number: u16,

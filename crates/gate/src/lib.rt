@@ -5,15 +5,15 @@
 mod gate;
 // A pass for an arm inside.
 mod pass;
-// Making a gate, and taking it apart.
+// Making a gate, and ending it.
 mod making;
 // Which calls are refused.
 mod refusals;
 // Begin and step.
 mod moving;
-// Admit, confirm and leave.
+// Admit, confirm, leave and let_go.
 mod passes;
-// Look, tally, and what a report wants to know.
+// The calls that tell of the gate and alter nothing: arm_count, bit, phase, look, tally, most_passed.
 mod watching;
 // Right of way.
 mod way;

@@ -40,7 +40,7 @@ fn arm_count<B: Bank, D: Door>(bank: &B, wanted: usize) -> usize
     n
 }
 
-// Writes to each of the registers 0 to count - 1 once what it holds at first.
+// Writes to each of the registers 0 to count - 1, once and in this order, what the door has there at first.
 fn clear<B: Bank, D: Door>(bank: &mut B, count: usize)
     requires count { count ≤ length (B.values bank.old) }
     requires high { D.table.needed ≤ B.HIGHEST }
@@ -68,8 +68,9 @@ fn fresh_arms<D: Door>() -> [Arm<D>; ARM_LIMIT]
 }
 
 impl<B: Bank, D: Door> Gate<B, D> {
-    /// A gate over a bank, which it owns from then on; with the wanted arm count, or as many as the door has room for there, [`ARM_LIMIT`] at most.
-    /// It cannot be refused.
+    /// Makes a gate over a bank, which the gate owns from then on. Its arm count is the largest one that is at most `wanted` and
+    /// [`ARM_LIMIT`], and whose registers the bank has; 0 if there is none, or if the bank's highest value is too low for the door.
+    /// The registers of these arms get what the door has there at first, and no other is written. It cannot be refused.
     #[tactic(auto, using(gate_model::proofs::Rooms::arms_largest))]
     pub fn make(mut bank: B, number: u16, wanted: usize) -> Gate<B, D>
         ensures made { result ≡ made D.table (record { memory = B.memory bank; high = B.HIGHEST; number = number; wanted = wanted; regs = B.values bank }) }
@@ -88,7 +89,7 @@ impl<B: Bank, D: Door> Gate<B, D> {
         }
     }
 
-    /// Ends the gate and hands its bank back, as it stands, with nothing more written to it.
+    /// Ends the gate and hands its bank back, as it stands, with nothing more written to it. A pass that is out can then be spent by nobody.
     pub fn into_bank(self) -> B
         ensures values { B.values result ≡ self.regs }
         ensures lent { B.memory result ≡ self.memory }

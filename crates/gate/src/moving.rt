@@ -18,9 +18,9 @@ use gate_model::access::Outcome;
 use gate_model::arm::Arm;
 use gate_model::{Phase, Refusal};
 
-// The position and the value just read decide the next position together; it is rewritten in place. Answers the phase of it.
-// A side is kept from the doorway's read of the bit to the last exit step.
-// The caller knows where the arm stands, and its phase: neither is read again after the access.
+// Takes an arm to its next position, which follows from its position, its side and the value just read. Answers the phase after that.
+// The arm gets its side where its doorway reads the bit, and has none from its last exit step on.
+// `from` is the arm's position and `phase` the phase of that: the caller has both, so neither is read again after the access.
 #[inline(always)]
 fn advance<D: Door>(arm: &mut Arm<D>, from: D, phase: Phase, n: u8, value: u64) -> Phase
     requires at { from ≡ arm.old.position }
@@ -40,7 +40,7 @@ fn advance<D: Door>(arm: &mut Arm<D>, from: D, phase: Phase, n: u8, value: u64) 
     to
 }
 
-// How many turns a step from a phase adds: only an exit step turns the bit.
+// What a step from a phase adds to the turns of the bit: 1 if its write turned it. Only an exit step can.
 fn turns(from: Phase, turned: bool) -> u64
     ensures { result ≡ (if same_phase from P.X && turned then 1 else 0) }
 {
@@ -73,7 +73,7 @@ impl<B: Bank, D: Door> Gate<B, D> {
         self.step_by_phase(arm)
     }
 
-    // A step branches on the phase of its arm here alone: the move is built once for each of the three.
+    // The phase of the arm is tested here and nowhere later in the step: `move_on` is compiled three times, for one phase each.
     fn step_by_phase(&mut self, arm: usize) -> Result<Phase, Refusal>
         ensures answer { result ≡ step_answer D.table self.old arm }
         ensures after { self.new ≡ after D.table self.old (Step arm) }
@@ -89,8 +89,8 @@ impl<B: Bank, D: Door> Gate<B, D> {
         }
     }
 
-    // The access of an arm that may step and its next position, the rows that tell of it, and the turns; answers the phase after it.
-    // The arm stands at this position, which has this phase.
+    // Makes the step of an arm that may step: its access, its next position, what this changes in the rows, and the turns of the bit.
+    // Answers the phase after it. `from` is the arm's position, and `phase` the phase of that.
     #[inline(always)]
     fn move_on(&mut self, arm: usize, from: D, phase: Phase) -> Phase
         requires low { 1 ≤ arm }

@@ -43,7 +43,7 @@ impl<B: Bank, D: Door> Gate<B, D> {
         (pass, yes)
     }
 
-    /// Spends a pass that `confirm` would say yes to, and sends its arm to the exit. Any other is handed back with 8.
+    /// Spends a pass that `confirm` would say yes to, and takes its arm to the first step of its exit. Any other is handed back with 8.
     #[tactic(auto, using(crate::proofs::RecordPlaces::place_fits), unfolding(crate::specs::Passes::passes_out))]
     pub fn leave(&mut self, mut pass: Pass) -> Result<Phase, HandedBack>
         ensures answer { result ≡ leave_answer D.table self.old pass }

@@ -9,7 +9,7 @@ use doors::Door;
 use gate_model::Phase;
 use gate_model::arm::{ARM_LIMIT, Arm};
 
-// The arm at b went inside: an arm that waits adds 1 for it.
+// The arm at place b went inside: this arm adds 1 for it, if it waits.
 fn count<D: Door>(arm: &mut Arm<D>, b: usize)
     requires { b < arm_limit }
     ensures { arm.new ≡ counted D.table b arm.old }
@@ -19,7 +19,7 @@ fn count<D: Door>(arm: &mut Arm<D>, b: usize)
     }
 }
 
-// The arm at b went inside: each arm that waits adds 1 for it. None does past the first n, the arms of the gate.
+// The arm at place b went inside: each arm of the gate that waits adds 1 for it. The records past the first n are idle.
 fn count_entry<D: Door>(arms: &mut [Arm<D>; ARM_LIMIT], n: usize, b: usize)
     requires arm { b < arm_limit }
     requires few { n ≤ arm_limit }
@@ -32,7 +32,7 @@ fn count_entry<D: Door>(arms: &mut [Arm<D>; ARM_LIMIT], n: usize, b: usize)
     }
 }
 
-// The arm at k ended its doorway: its row starts at 0, and the idle arms are noted. All are idle past the first n.
+// The arm at place k ended its doorway: its row starts at 0, and the idle arms are noted. The records past the first n are idle.
 fn start_row<D: Door>(arms: &mut [Arm<D>; ARM_LIMIT], n: usize, k: usize)
     requires arm { k < arm_limit }
     requires few { n ≤ arm_limit }
@@ -46,8 +46,8 @@ fn start_row<D: Door>(arms: &mut [Arm<D>; ARM_LIMIT], n: usize, k: usize)
     }
 }
 
-// The arm at k went from one phase to another. At the end of its doorway its row starts; when it goes inside the arms that wait
-// count it. The rest of its visit leaves all rows, so that its own tells of this visit until the next one's doorway ends.
+// What a step of the arm at place k, from one phase to another, changes in the rows. At the end of its doorway its own row starts;
+// when it goes inside, the arms that wait count that. No other step changes a row, so a row is kept until the next doorway ends.
 pub(crate) fn follow<D: Door>(
     arms: &mut [Arm<D>; ARM_LIMIT],
     n: usize,

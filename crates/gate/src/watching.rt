@@ -14,7 +14,7 @@ use gate_model::access::{GROUP, value_at};
 use gate_model::{Phase, Refusal};
 
 impl<B: Bank, D: Door> Gate<B, D> {
-    /// How many arms the gate has, `ARM_LIMIT` at most. Of any gate in hand: only a making and calls lead to it.
+    /// How many arms the gate has, `ARM_LIMIT` at most. The contract also says that a making and a list of calls lead to the gate.
     pub fn arm_count(&self) -> usize
         ensures arms { result ≡ self.now.n }
         ensures gate { IsGate D.table self.now }
@@ -22,7 +22,7 @@ impl<B: Bank, D: Door> Gate<B, D> {
         self.n
     }
 
-    /// The group bit; 0 where the gate has no arms.
+    /// The bit, which is the value of register 0; 0 where the gate has no arms.
     pub fn bit(&self) -> u64
         ensures { result ≡ bit_of self.now }
     {
@@ -59,8 +59,8 @@ impl<B: Bank, D: Door> Gate<B, D> {
         })
     }
 
-    /// How often the other arm went inside while this one waited, the last time that it did, and whether it was idle when that wait
-    /// began: so of an idle arm what it lost by its last visit. Refuses with 1, for either arm.
+    /// How often the other arm went inside during this one's present wait, or its last one where it does not wait; and whether the other
+    /// was idle when this one ended its doorway before that wait. Refuses with 1, for either arm.
     #[tactic(auto, using(crate::proofs::RecordsRead::tally_told))]
     pub fn tally(&self, arm: usize, other: usize) -> Result<Tally, Refusal>
         ensures { result ≡ tally_answer D.table self.now arm other }
@@ -73,8 +73,8 @@ impl<B: Bank, D: Door> Gate<B, D> {
         })
     }
 
-    /// The most that any arm went inside while this one waited, the last time that it did: the largest count of its row.
-    /// Refuses with 1.
+    /// The largest count of the arm's row: the most that one other arm went inside during its present wait, or its last one where it
+    /// does not wait. Refuses with 1.
     pub fn most_passed(&self, arm: usize) -> Result<u8, Refusal>
         ensures { result ≡ most_answer D.table self.now arm }
     {

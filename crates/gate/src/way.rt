@@ -18,7 +18,7 @@ fn some_side<D: Door>(arms: &[Arm<D>; ARM_LIMIT], n: usize, t: u64) -> bool
 }
 
 impl<B: Bank, D: Door> Gate<B, D> {
-    // The group differs from a side, or no arm has the other side.
+    // Whether the bit differs from this side, or no arm has the other side.
     fn is_free(&self, side: u64) -> bool
         ensures { result ≡ free_for self.now side }
     {
@@ -26,7 +26,7 @@ impl<B: Bank, D: Door> Gate<B, D> {
         self.bit() != side || !some_side(&self.arms, self.n, other)
     }
 
-    /// Whether a waiting arm has right of way. Refuses with 1 or 6. The gate in hand is fair, whatever was called on it.
+    /// Whether a waiting arm has right of way. Refuses with 1 or 6. The contract also says that the gate is fair, whatever was called on it.
     pub fn way(&self, arm: usize) -> Result<bool, Refusal>
         ensures answer { result ≡ way_answer D.table self.now arm }
         ensures told { Tells D.table self.now arm result }

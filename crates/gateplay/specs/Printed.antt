@@ -8,7 +8,7 @@ use Rattle.schedule.specs.Reading.{Contents}
 use Rattle.schedule.specs.declared.fault.PlayFault.{PlayFault}
 use Rattle.three_bits.specs.Positions.{three_bits}
 
--- the report of a play on the three-bit door over a bank of bits that are all 0, or the line of the fault
+-- the report of a play through the three-bit door over a bank of bits that are all 0, or the line of the fault
 abbrev pub shown : Result Contents PlayFault → List ℕ
 shown (Ok c) = play_text three_bits (unlogged 0) 1 (replicate bit_registers 0) c
 shown (Err fault) = fault_text fault

@@ -1,4 +1,4 @@
-//! Plays a schedule file from standard input on a gate of three bits an arm over a bit bank, and prints the report,
+//! Plays a schedule file from standard input over a bit bank, through the three-bit door, and prints the report,
 //! or the fault line of a file that is not played. It prints nothing else.
 //! It ends with status 0 after a play, 1 after a fault, and 2 where reading or writing fails.
 #![tactic(auto)]
@@ -22,7 +22,7 @@ const FAULT: u8 = 1;
 
 const NOT_READ_OR_WRITTEN: u8 = 2;
 
-// The first bytes of the memory are what is to be printed, and the status is what to end with.
+// How many bytes at the start of the memory are to be printed, and the status that the program ends with.
 #[derive(Drop)]
 struct Outcome {
     length: usize,

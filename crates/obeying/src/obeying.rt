@@ -7,7 +7,8 @@ use gate::Gate;
 use gate_model::Refusal;
 use schedule::Order;
 
-/// Obeys one order, unless the gate refuses it. A leave order admits and leaves.
+/// Obeys one order and answers none, or answers why the gate refuses it. A leave order admits its arm and lets it leave;
+/// it is refused as an admit is, with 1, 6 or 7.
 #[inline]
 pub fn obey<B: Bank, D: Door>(gate: &mut Gate<B, D>, order: Order) -> Option<Refusal>
     ensures answer { result ≡ order_refusal D.table gate.old order }

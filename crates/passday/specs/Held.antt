@@ -10,7 +10,7 @@ abbrev pub out_with : Option Pass → (ℕ → ℕ → Bool) → ℕ → ℕ →
 out_with (Some p) out gate arm = out gate arm || names p gate arm
 out_with None out gate arm = out gate arm
 
--- and without the one that was spent, if one was
+-- the passes that are out, without the one that was spent, if one was
 abbrev pub out_without : Option Pass → (ℕ → ℕ → Bool) → ℕ → ℕ → Bool
 out_without (Some p) out gate arm = out gate arm && not (names p gate arm)
 out_without None out gate arm = out gate arm

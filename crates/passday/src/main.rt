@@ -10,10 +10,10 @@ use doors::{Door, ThreeBits};
 use gate::{Gate, Pass};
 use gate_model::Phase;
 
-// How many steps an arm is given in a row: more than it takes to go inside where nothing is in its way.
+// How many steps an arm is given in a row: more than it takes to go inside where it has right of way.
 const STEPS: usize = 60;
 
-// Takes the pass of an arm; none where it is not inside.
+// Takes the pass of an arm; none where `admit` is refused.
 fn take_in<B: Bank, D: Door>(gate: &mut Gate<B, D>, arm: usize) -> Option<Pass>
     ensures held { IsHeld D.table gate.new arm result }
     ensures passes { passes_out D.table gate.new ≡ out_with result (passes_out D.table gate.old) }
@@ -31,7 +31,8 @@ fn let_go<B: Bank, D: Door>(gate: &mut Gate<B, D>, held: Option<Pass>)
     }
 }
 
-// Begins an arm that is idle, and steps it as far as it comes; answers its phase then. Passes that are held stay good.
+// Begins an arm if it is idle, and calls `step` for it STEPS times, which is refused once it is inside or idle; answers its phase then.
+// Passes that are held stay good.
 fn step_on<B: Bank, D: Door>(gate: &mut Gate<B, D>, arm: usize) -> Phase
     ensures { passes_out D.table gate.new ≡ passes_out D.table gate.old }
 {
@@ -42,7 +43,8 @@ fn step_on<B: Bank, D: Door>(gate: &mut Gate<B, D>, arm: usize) -> Phase
     gate.phase(arm).unwrap_or(Phase::I)
 }
 
-// Holds the passes of arms 1 to 3 while it steps others; answers how far those came.
+// Holds the passes of arms 1 to 3 while it steps arm 4. Then spends that of arm 2, steps arm 2 to the end of its visit and again in its
+// next one, and spends the other two. Answers the phases of arms 4, 2 and 2 after their steps.
 fn hold_three<B: Bank, D: Door>(gate: &mut Gate<B, D>) -> [Phase; 3] {
     let table = [take_in(gate, 1), take_in(gate, 2), take_in(gate, 3)];
     let beside = step_on(gate, 4);

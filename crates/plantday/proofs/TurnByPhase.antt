@@ -1,4 +1,4 @@
--- A turn of an arm that steps, and a turn more of a day.
+-- A turn of an arm that steps, and one more turn of a day.
 use Rattle.std.proofs.Common.{◌≡◌, ℕ, ◌+◌, ◌⊎◌, inl, inr, Ok, add-one, arith}
 use Rattle.gate_model.specs.Calls.{after}
 use Rattle.gate_model.specs.States.{State, arm_at, phase_at}
@@ -17,7 +17,7 @@ module _ {At : Type 0} (door : Table At) where
   pub look_arm : (s : State At) (i : ℕ) (view : View) → look_answer door s i ≡ Ok view → (phase_at door s i ≡ view.phase) × ((arm_at door s i).out ≡ view.out)
   look_arm s i view e = (grind arith, grind arith)
 
-  -- in its doorway, waiting or leaving
+  -- the turn of an arm in its doorway, waiting or leaving is a step
   stepping : (k : ℕ) (p : Plant At) (from : Phase) → (from ≡ P.D) ⊎ ((from ≡ P.W) ⊎ (from ≡ P.X)) → turned_in door from k p ≡ plant_stepped door k from p
   stepping k p from h = elim h [ inl e ↦ rw e | inr more ↦ elim more [ inl e ↦ rw e | inr e ↦ rw e ] ]
 
@@ -28,7 +28,7 @@ module _ {At : Type 0} (door : Table At) where
       → first ≡ noted door t k from to notes → second ≡ with_move door t k first → plant t dice second ≡ turned door k (plant s dice notes)
   arm_steps k dice s t notes from to first second busy phase answer step note move = rw (phase, stepping k (plant s dice notes) from busy, move, note, ahead s k to answer, step)
 
-  -- one turn more, of the arm that the dice pick
+  -- one more turn, of the arm that the dice pick
   pub turns_on : (t k dice : ℕ) (start now next : Plant At) → now ≡ turns_of door t start → k ≡ picked now.dice → dice ≡ dice_after_pick now.dice
       → next ≡ turned door k (record now { dice = dice }) → next ≡ turns_of door (t + 1) start
   unfolding turns_of

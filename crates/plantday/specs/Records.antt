@@ -13,11 +13,11 @@ use Rattle.plantday.specs.declared.record.Record.{Record}
 abbrev pub plant_arms : ℕ
 plant_arms = 6
 
--- one more; a count of 32 bits stops at its highest
+-- n and one more; a count of 32 bits stops at its highest value
 abbrev pub counted_up : ℕ → ℕ
 counted_up n = min (n + 1) (2 ^ 32 - 1)
 
--- the day begins
+-- the record when the day begins
 abbrev pub empty_record : Record
 empty_record =
     record {
@@ -30,7 +30,7 @@ empty_record =
       rounds = 0;
     }
 
--- a reading of arm k + 1 is in the table
+-- a reading of arm k + 1 was delivered
 abbrev pub with_delivery : ℕ → Record → Record
 with_delivery k r = record r { delivered = slice_set r.delivered k (counted_up (slice_index r.delivered k)) }
 
@@ -38,7 +38,7 @@ with_delivery k r = record r { delivered = slice_set r.delivered k (counted_up (
 abbrev pub with_wait : ℕ → Record → Record
 with_wait k r = record r { since = slice_set r.since k (counted_up r.rounds) }
 
--- arm k + 1 went inside, past which others went `most` times: the longest wait and the largest count are kept
+-- arm k + 1 went inside, and `most` is the largest count of its row: the longest wait and the largest count are kept
 abbrev pub with_entry : ℕ → ℕ → Record → Record
 with_entry k most r =
     record r {
@@ -46,26 +46,26 @@ with_entry k most r =
       waited = slice_set r.waited k (max (slice_index r.waited k) (r.rounds - slice_index r.since k));
     }
 
--- other arms are due, and so many rounds are over
+-- these arms are due (they have still to move before the round is over), and so many rounds are over
 abbrev pub with_round : List Bool → ℕ → Record → Record
 with_round due rounds r = record r { due = due; rounds = rounds }
 
--- whether an arm is due
+-- whether some arm is due
 abbrev pub some_due : List Bool → Bool
 some_due due = list_any (λ d. d) due
 
 module _ {At : Type 0} (door : Table At) where
-  -- an arm that the gate has and that is not idle
+  -- whether the gate has arm k + 1 and it is not idle
   abbrev pub is_busy : State At → ℕ → Bool
   is_busy s k = if is_arm s (k + 1) then not (is_in door P.I s (k + 1)) else false
 
-  -- arm k + 1 moved: a round is over once no arm is due, and then every arm that is not idle is
+  -- arm k + 1 moved: a round is over once no arm is due, and then every arm that is not idle is due
   abbrev pub with_move : State At → ℕ → Record → Record
   with_move s k r =
       let left = slice_set r.due k false in
       (if some_due left then with_round left r.rounds r else with_round (map (is_busy s) (range_with_len 0 plant_arms)) (counted_up r.rounds) r)
 
-  -- arm k + 1 was inside, and its pass not out: its reading was delivered, and it left; the gate is s then
+  -- arm k + 1 was inside with no pass out: its reading was delivered, and it left; the gate is s after that
   abbrev pub with_leave : State At → ℕ → Record → Record
   with_leave s k r = with_move s k (with_delivery k r)
 
@@ -73,7 +73,7 @@ module _ {At : Type 0} (door : Table At) where
   abbrev pub most_past : State At → ℕ → ℕ
   most_past s k = largest_count (arm_at door s (k + 1)).row s.n
 
-  -- arm k + 1 stepped from one phase to another; the gate is s then
+  -- arm k + 1 stepped from one phase to another; the gate is s after that
   abbrev pub noted : State At → ℕ → Phase → Phase → Record → Record
   noted s k P.D P.W r = with_wait k r
   noted s k P.W P.F r = with_entry k (most_past s k) r

@@ -25,7 +25,8 @@ rolls (suc k) dice = rolled (rolls k dice)
 abbrev pub roll_shown : ℕ → ℕ → ℕ → ℕ
 roll_shown k sides dice = face (rolls k dice) sides
 
--- whose turn it is by the dice, k of arm k + 1: two arms get seven turns of ten, and the last one hardly any; and the dice then
+-- whose turn it is by the dice, k of arm k + 1: seven turns of ten go to arms 1 and 2, nearly all others to arms 1 to 5, and few to arm 6;
+-- and the dice after that
 abbrev pub picked : ℕ → ℕ
 picked dice =
     if nat_lt (roll_shown 1 10 dice) 7 then roll_shown 2 2 dice else (if nat_lt (roll_shown 2 20 dice) 19 then roll_shown 3 (plant_arms - 1) dice else plant_arms - 1)
@@ -43,7 +44,7 @@ abbrev pub plant : {At : Type 0} → State At → ℕ → Record → Plant At
 plant gate dice notes = record { gate = gate; dice = dice; notes = notes }
 
 module _ {At : Type 0} (door : Table At) where
-  -- arm k + 1, idle, begins at one roll of three
+  -- arm k + 1, idle, begins with a chance of one in three
   abbrev pub begun_by_chance : ℕ → Plant At → Plant At
   begun_by_chance k p = record p { gate = if roll_shown 1 3 p.dice == 0 then after door p.gate (begin (k + 1)) else p.gate; dice = rolls 1 p.dice }
 
@@ -51,7 +52,7 @@ module _ {At : Type 0} (door : Table At) where
   abbrev pub let_go : State At → ℕ → State At
   let_go s k = after door (after door s (admit (k + 1))) (leave s.number (k + 1))
 
-  -- its reading is delivered meanwhile
+  -- arm k + 1, inside, is admitted and leaves, and its reading is delivered
   abbrev pub plant_visited : ℕ → Plant At → Plant At
   plant_visited k p = let s : State At = let_go p.gate k in record p { gate = s; notes = with_leave door s k p.notes }
 
@@ -59,11 +60,11 @@ module _ {At : Type 0} (door : Table At) where
   abbrev pub phase_ahead : State At → ℕ → Phase
   phase_ahead s k = door.phase (arm_after door s (k + 1)).position
 
-  -- arm k + 1, in this phase, steps: that is noted, and that it moved
+  -- arm k + 1, in this phase, steps: the phases before and after are noted, and that it moved
   abbrev pub plant_stepped : ℕ → Phase → Plant At → Plant At
   plant_stepped k from p = let s : State At = after door p.gate (step (k + 1)) in record p { gate = s; notes = with_move door s k (noted door s k from (phase_ahead p.gate k) p.notes) }
 
-  -- a turn of arm k + 1: what its phase asks for
+  -- a turn of arm k + 1, in this phase: it does what the phase asks for; inside with its pass out it does nothing
   abbrev pub turned_in : Phase → ℕ → Plant At → Plant At
   turned_in P.I k p = begun_by_chance k p
   turned_in P.F k p = if (arm_at door p.gate (k + 1)).out then p else plant_visited k p

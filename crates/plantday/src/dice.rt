@@ -14,7 +14,7 @@ impl Dice {
         Dice { state: seed }
     }
 
-    // A number below `sides`, or 0 where there are none.
+    // A number below `sides`; 0 where `sides` is 0.
     pub fn roll(&mut self, sides: usize) -> usize
         ensures state { self.new.state ≡ rolled self.old.state }
         ensures shown { result ≡ face (rolled self.old.state) sides }

@@ -36,14 +36,14 @@ const REGISTERS: usize = 3 * ARMS + 1;
 
 const REGISTERS_FOUR_VALUED: usize = ARMS + 1;
 
-// No arm goes inside more often past a waiting one.
+// An arm goes inside at most so often while another waits.
 const MOST_PASSED: u8 = 2;
 
-// The kind of gate that a day is spent on: through this door, over bytes. Where the door is left open, a function that makes
-// such a gate names its kind in its header, since nothing else says that it is not larger than memory.
+// The kind of gate that a day is spent on: through door D, over lent bytes. A function that is written for every door and makes such a
+// gate names the kind in its header: the check knows that a gate is no larger than memory only of a kind that is named there.
 type Kind<'a, D> = PhantomData<Gate<ByteBank<&'a mut [u8]>, D>>;
 
-// Two arms get seven turns of ten, and the last one hardly any.
+// Picks whose turn it is, k of arm k + 1: seven turns of ten go to arms 1 and 2, nearly all others to arms 1 to 5, and few to arm 6.
 fn pick(dice: &mut Dice) -> usize
     ensures arm { result ≡ picked dice.old.state }
     ensures dice { dice.new.state ≡ dice_after_pick dice.old.state }
@@ -58,7 +58,7 @@ fn pick(dice: &mut Dice) -> usize
     }
 }
 
-// Carries a reading of arm k + 1, which is inside, into the table, and lets the arm go.
+// Counts a reading of arm k + 1, which is inside, as delivered, and lets the arm leave.
 fn deliver<B: Bank, D: Door>(gate: &mut Gate<B, D>, k: usize, record: &mut Record)
     requires arm { k < plant_arms }
     requires inside { refusal_of D.table gate.old (Admit (k + 1)) ≡ None }
@@ -88,7 +88,7 @@ fn note<B: Bank, D: Door>(gate: &Gate<B, D>, k: usize, from: Phase, to: Phase, r
     }
 }
 
-// One turn of arm k + 1, whatever its phase asks for.
+// One turn of arm k + 1: it does what its phase asks for.
 fn turn<B: Bank, D: Door>(gate: &mut Gate<B, D>, k: usize, dice: &mut Dice, record: &mut Record)
     requires arm { k < plant_arms }
     requires arms { gate.old.n ≡ plant_arms }
@@ -101,11 +101,11 @@ fn turn<B: Bank, D: Door>(gate: &mut Gate<B, D>, k: usize, dice: &mut Dice, reco
     match view.phase {
         Phase::I => {
             if dice.roll(3) == 0 {
-                // An arm that has had its last visit stays idle.
+                // A worn arm is refused with 5 and stays idle.
                 let _ = gate.begin(arm);
             }
         }
-        // Whoever has the pass lets the arm go.
+        // The pass is out: only its holder can let the arm leave.
         Phase::F if view.out => {}
         Phase::F => deliver(gate, k, record),
         Phase::D | Phase::W | Phase::X => {
@@ -116,7 +116,7 @@ fn turn<B: Bank, D: Door>(gate: &mut Gate<B, D>, k: usize, dice: &mut Dice, reco
     }
 }
 
-// A whole day on a new gate. Nothing but calls was made on it, so it is fair.
+// A whole day on a new gate. All that is done to the gate is calls, so it is fair at the end.
 fn whole_day<B: Bank, D: Door>(bank: B, record: &mut Record) -> Gate<B, D>
     requires { arms_for D.table B.HIGHEST (length (B.values bank)) plant_arms ≡ plant_arms }
     ensures fair { FairDay D.table (made D.table (of_plant (B.memory bank) B.HIGHEST (B.values bank))) result }
@@ -135,7 +135,7 @@ fn whole_day<B: Bank, D: Door>(bank: B, record: &mut Record) -> Gate<B, D>
     gate
 }
 
-// A day on a gate over the plant's own memory, and that memory when the gate has ended: it holds the gate's registers.
+// A day on a gate over lent memory. Ends the gate and hands the memory back: it holds the gate's registers.
 fn day_over<'a, D: Door>(
     memory: &'a mut [u8],
     record: &mut Record,
@@ -149,7 +149,7 @@ fn day_over<'a, D: Door>(
     gate.into_bank().into_memory()
 }
 
-// Lends memory for a day: afterwards it holds the gate's registers.
+// Lends memory to a gate for a day. It holds the gate's registers after that.
 fn lend<D: Door>(memory: &mut [u8], record: &mut Record, _kind: Kind<'static, D>)
     requires { arms_for D.table 255 (length memory.old) plant_arms ≡ plant_arms }
     ensures { (name : ℕ) × HoldsFairDay D.table (made D.table (of_plant (unlogged name) 255 memory.old)) memory.new «record».new.turns }
@@ -157,7 +157,7 @@ fn lend<D: Door>(memory: &mut [u8], record: &mut Record, _kind: Kind<'static, D>
     let _ = day_over::<D>(memory, record, PhantomData);
 }
 
-// The memory of a plant that lent so many registers for a day.
+// Lends COUNT bytes of 0 to a gate for a day, and answers what they hold after that: the gate's registers.
 fn memory_after_day<D: Door, const COUNT: usize>(
     record: &mut Record,
     kind: Kind<'static, D>,
@@ -170,7 +170,8 @@ fn memory_after_day<D: Door, const COUNT: usize>(
     memory
 }
 
-// What the day comes to for each arm, beside the most that its door lets it be passed and wait, and how often the bit turned.
+// Prints for each arm how many readings were delivered, how often it was passed and how many rounds it waited, beside the bounds of the
+// fairness law; then how often the bit turned.
 fn show<D: Door>(rt: &HostRuntime, record: &Record) -> anyhow::Result<()> {
     let most_rounds = D::rounds(ARMS as u8);
     for k in 0..ARMS {

@@ -13,17 +13,17 @@ pub const ARMS: usize = 6;
 // What the day comes to, for each arm and for the gate.
 #[derive(Drop)]
 pub struct Record {
-    // The number of the latest reading in the table.
+    // How many of its readings were delivered.
     pub delivered: [u32; ARMS],
-    // The most that another arm went inside past it while it waited.
+    // The most that one other arm went inside during one of its waits.
     pub passed: [u8; ARMS],
-    // The most whole rounds that it waited.
+    // Its longest wait, in whole rounds.
     pub waited: [u32; ARMS],
     // How often the bit turned.
     pub turns: u64,
     // The first whole round of its present wait.
     since: [u32; ARMS],
-    // Who has still to move before the round is over.
+    // Which arms have still to move before the present round is over.
     due: [bool; ARMS],
     rounds: u32,
 }
@@ -43,7 +43,7 @@ impl Record {
         }
     }
 
-    // A reading of arm k + 1 is in the table.
+    // A reading of arm k + 1 was delivered.
     pub(crate) fn deliver(&mut self, k: usize)
         requires { k < plant_arms }
         ensures { self.new ≡ with_delivery k self.old }
@@ -59,7 +59,7 @@ impl Record {
         self.since[k] = self.rounds.saturating_add(1);
     }
 
-    // Arm k + 1 went inside; while it waited, another went inside past it `most` times.
+    // Arm k + 1 went inside; `most` is the largest count of its row.
     pub(crate) fn goes_inside(&mut self, k: usize, most: u8)
         requires { k < plant_arms }
         ensures { self.new ≡ with_entry k most self.old }
@@ -82,7 +82,7 @@ impl Record {
     }
 }
 
-// Whether an arm is still due.
+// Whether some arm has still to move before the round is over.
 fn is_due(due: &[bool; ARMS]) -> bool
     ensures { result ≡ some_due due.now }
 {

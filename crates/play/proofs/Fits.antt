@@ -30,7 +30,7 @@ longest_line = arm_digits + 20
 abbrev longest_first : ℕ
 longest_first = arm_digits + 69
 
--- as the limits are: computed
+-- computed from the limits
 some_digits : 0 < arm_digits
 unfolding digits
 some_digits = ltb-true _ _ refl

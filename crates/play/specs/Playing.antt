@@ -14,17 +14,17 @@ use Rattle.play.specs.Limits.{report_room}
 use Rattle.play.specs.Reports.{report_text}
 use Rattle.play.specs.Text.{overwritten}
 
--- what a file says, to a play with so much report memory: too long, then too little memory, then its first fault
+-- what a file says, or why it is not played with so much report memory: too long, then too little memory, then its first fault
 abbrev pub playable : List ℕ → ℕ → Result Contents PlayFault
 playable file room =
     if nat_le (length file) file_limit then (if nat_le report_room room then says file else Err ShortMemory) else Err LongFile
 
--- gate 0 over a bank, made for a file
+-- the making of gate 0 over a bank, for what a file says
 abbrev pub over : Lent → ℕ → List ℕ → Contents → Making
 over lent high regs c = record { memory = lent; high = high; number = 0; wanted = c.arms; regs = regs }
 
 module _ {At : Type 0} (door : Table At) where
-  -- as it is made and after its orders
+  -- that gate when it is made, and after the orders of the file
   abbrev pub start : Lent → ℕ → List ℕ → Contents → State At
   start lent high regs c = made door (over lent high regs c)
 
@@ -85,13 +85,13 @@ module _ {At : Type 0} (door : Table At) where
     pub report : memory_is ≡ play_memory lent' high' regs' memory said
     pub refusals : play_refusals lent' high' regs' said ≡ play_refusals lent high regs said
 
-  -- so it is with every other bank that gives the file as many arms, whatever it holds: a play depends on nothing else of the bank
+  -- the play comes to the same over every bank that gives the file as many arms, whatever it holds
   abbrev pub SameElsewhere : (lent : Lent) (high : ℕ) (regs file memory : List ℕ) → Result ℕ PlayFault → List ℕ → Type 0
   SameElsewhere lent high regs file memory answer_is memory_is =
       (lent' : Lent) (high' : ℕ) (regs' : List ℕ) → GivesAsMany high regs high' regs' (playable file (length memory))
       → IsSamePlay lent high regs lent' high' regs' (playable file (length memory)) memory answer_is memory_is
 
-  -- a gate in hand after the orders of a file
+  -- a gate after the orders of a file; as it was where the file has a fault
   abbrev pub obeyed_by : Result Contents PlayFault → State At → State At
   obeyed_by (Ok c) s = obeyed_all door s c.orders
   obeyed_by (Err fault) s = s

@@ -17,7 +17,7 @@ abbrev pub side_text : Option ℕ → List ℕ
 side_text (Some s) = decimal s
 side_text None = codes "-"
 
--- the line on the whole play
+-- the first line of a report: arm count, orders, refused orders and the bit
 abbrev pub first_line : {At : Type 0} → State At → ℕ → ℕ → List ℕ
 first_line s orders refused =
     codes "arms " ++ decimal s.n ++ codes " orders " ++ decimal orders

@@ -9,10 +9,10 @@ use doors::Door;
 use gate::{Gate, View};
 use itoa::Buffer;
 
-// No first line is longer, whatever its numbers are.
+// Room for the first line of a report, in bytes: none is longer, whatever its numbers are.
 const FIRST_ROOM: usize = 128;
 
-// No line of an arm is longer.
+// Room for the line of an arm, in bytes: none is longer.
 const LINE_ROOM: usize = 60;
 
 // A side, or a dash where it is missing.
@@ -26,7 +26,7 @@ fn side_text(side: Option<u64>, digits: &mut Buffer) -> &str
     }
 }
 
-// The line on the whole play.
+// The first line of a report: arm count, orders, refused orders and the bit.
 pub(crate) fn first_line<B: Bank, D: Door>(
     gate: &Gate<B, D>,
     orders: usize,

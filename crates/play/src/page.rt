@@ -15,10 +15,10 @@ use schedule::{Layer, PlayFault};
 /// The least memory for a report or a fault line, in bytes.
 pub const REPORT_ROOM: usize = 4096;
 
-// No fault line is longer.
+// Room for a fault line, in bytes: none is longer.
 const FAULT_ROOM: usize = 128;
 
-// Whether memory of so many bytes has room for any report or fault line.
+// Answers fault 10 where memory of so many bytes is too short for a report or a fault line.
 pub(crate) fn ask_room(bytes: usize) -> Result<(), PlayFault>
     ensures { result ≡ (if nat_le report_room bytes then Ok tt else Err ShortMemory) }
 {
@@ -53,8 +53,8 @@ fn layer_word(layer: Layer) -> &'static str
     }
 }
 
-/// Puts the line of a fault at the start of the memory, and answers its length.
-/// With fewer bytes than [`REPORT_ROOM`] it answers that the memory is short, and leaves it as it was.
+/// Puts the line of a fault at the start of the memory, and answers its length in bytes.
+/// Memory of fewer bytes than [`REPORT_ROOM`] gives fault 10, and stays as it was.
 pub fn fault_line(fault: PlayFault, memory: &mut [u8]) -> Result<usize, PlayFault>
     ensures answer { result ≡ text_answer memory.old (fault_text fault) }
     ensures after { memory.new ≡ text_memory memory.old (fault_text fault) }
@@ -96,9 +96,8 @@ pub(crate) fn put_report<B: Bank, D: Door>(
     deliver(page.as_str(), memory)
 }
 
-/// Puts the report of a gate after so many orders, of which some were refused, at the start of the memory,
-/// and answers its length.
-/// With fewer bytes than [`REPORT_ROOM`] it answers that the memory is short, and leaves it as it was.
+/// Puts the report of a gate at the start of the memory, and answers its length in bytes. Its counts of orders and of refused
+/// orders are those given here. Memory of fewer bytes than [`REPORT_ROOM`] gives fault 10, and stays as it was.
 pub fn report<B: Bank, D: Door>(
     gate: &Gate<B, D>,
     orders: usize,

@@ -12,16 +12,17 @@ use obeying::obey;
 use schedule::{File, PlayFault, Schedule};
 use std::marker::PhantomData;
 
-/// The bank of a play that is over, and the length of its report in bytes or why there was none; G is the kind of gate that played.
+/// The bank of a play that is over, and the length of its report in bytes or the fault; G is the kind of gate that the play made.
 #[derive(Drop)]
 pub struct Played<B, G> {
     pub bank: B,
     pub answer: Result<usize, PlayFault>,
-    // That a gate of this kind is no larger than memory is known of a function whose header names the kind.
+    // Empty; it puts the kind of gate into the header of each function that plays. The check knows that a gate is no larger than memory
+    // only of a kind that is named there.
     kind: PhantomData<G>,
 }
 
-// An order that was refused counts.
+// 1 for an order that was refused, 0 for one that was obeyed.
 fn count(refusal: Option<Refusal>) -> usize
     ensures { result ≡ (if is_some refusal then 1 else 0) }
 {
@@ -29,7 +30,7 @@ fn count(refusal: Option<Refusal>) -> usize
 }
 
 // Obeys the orders of a schedule one after another, and answers how many the gate refused.
-// It stays a function of its own where it is built, so that its loop has the processor's registers to itself.
+// It is not inlined, so that the compiler can keep what its loop uses in the processor's registers.
 #[inline(never)]
 fn obey_all<B: Bank, D: Door>(gate: &mut Gate<B, D>, schedule: &Schedule) -> usize
     ensures refused { result ≡ refusals D.table gate.old schedule.now.orders }
@@ -42,7 +43,7 @@ fn obey_all<B: Bank, D: Door>(gate: &mut Gate<B, D>, schedule: &Schedule) -> usi
     refused
 }
 
-// The schedule of a file that can be played with so many bytes of report memory.
+// The schedule of a file that can be played with so many bytes of report memory. Else fault 9, then 10, then the file's first fault.
 fn ready(file: &[u8], room: usize) -> Result<Schedule<'_>, PlayFault>
     ensures { result ≡ playable file.now room }
 {
@@ -83,8 +84,9 @@ fn perform<B: Bank, D: Door>(
 }
 
 /// Plays a file on gate 0 over a bank, puts the report at the start of the memory, and hands the bank back.
-/// The file is gone through whole first: a fault leaves bank and memory as they were. The service byte reads 1 meanwhile.
-/// The report, and which orders are refused, depend on the file, the door and the arm count alone, and on nothing else of the bank.
+/// The whole file is checked first. A fault leaves bank and memory as they were: 9, then 10 for memory under 4,096 bytes, then the
+/// file's first one. The service byte reads 1 during the play, and then what it read before.
+/// The report, and which orders are refused, depend on nothing of the bank but how many arms it gives the file.
 /// A host names the door, as `play::<_, ThreeBits>(..)`.
 pub fn play<B: Bank, D: Door>(
     file: &[u8],

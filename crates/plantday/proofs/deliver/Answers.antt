@@ -5,13 +5,13 @@ use Rattle.plantday.specs.Records.{with_move}
 use Rattle.plantday.proofs.deliver.Goals as goal
 use Rattle.plantday.proofs.deliver.Goals.{then-known, else-known}
 
--- admitted and left
+-- the arm is admitted and leaves
 pub returns-clause-calls : goal.returns-clause-calls
 returns-clause-calls g c =
     let leave = Leave c.confirm-known.result.0.gate c.confirm-known.result.0.arm in
     (Admit (c.args.k + 1) ∷ leave ∷ [], c.leave.ensures.after ∙ ap (λ s. after g.D.Door.table s leave) c.admit.ensures.after)
 
--- and delivered: the pass just given is known
+-- its reading is delivered, since the gate knows the pass that it just gave
 pub returns-clause-noted : goal.returns-clause-noted
 returns-clause-noted g c =
     elim c.if-known.branch [

@@ -10,7 +10,7 @@ pub loop-time-init : goal.loop-time-init
 unfolding day_of
 loop-time-init g c = record { moves = search rules; day = ap (host c.args.dispatcher.now c.args.asked.now c.args.readings.now _) c.none-waits.ensures }
 
--- who asks is put into the ring
+-- the arm that asks is put into the ring
 asks : (g : Over) (c : goal.Joined-seen_inside g)
     → host c.loop-time.dispatcher c.match-asks.asked c.loop-time.readings c.match-asks.lost c.loop-time.waits
     ≡ with_ask (asked_at c.loop-time.time) (host c.loop-time.dispatcher c.loop-time.asked c.loop-time.readings c.loop-time.lost c.loop-time.waits)

@@ -3,7 +3,7 @@ use Rattle.dispatchday.specs.WaitTimes.{no_waits}
 use Rattle.dispatchday.specs.Day.{MovesMade, host, nothing_lost, day_of}
 use Rattle.dispatchday.proofs.host.day.Given as goal
 
--- a move was made at each time so far, in a turn of the day
+-- so many turns of the day were made, with a move each
 abbrev pub invariant-loop-time : goal.invariant-loop-time
 invariant-loop-time g l =
     let door = g.D.Door.table in

@@ -3,7 +3,7 @@ use Rattle.gate_model.specs.Limits.{arm_limit}
 use Rattle.gate_model.specs.Making.{largest}
 use Rattle.gate.proofs.making.arm_count.Given as goal
 
--- no larger count has room
+-- no arm count above n has room
 abbrev pub invariant-loop-n : goal.invariant-loop-n
 invariant-loop-n g l =
     let len = length (g.B.Bank.values l.bank) in

@@ -50,7 +50,7 @@ invariant_of-self g c =
     let door = g.D.Door.table in
     after_call door _ c.args.self.now _ (Step c.args.arm) c.self.invariant c.self.view_is (step_after door c.args.self.now _ c.args.arm c.requires.may (returns-clause-after g c))
 
--- all turns that a gate may have fit
+-- the count of the turns does not overflow
 pub overflow_add-self : goal.overflow_add-self
 overflow_add-self g c =
     let door = g.met.D.Door in
