@@ -12,10 +12,11 @@ def crates_below():
     return {name.strip(): below.split() for name, _, below in listed if name.strip()}
 
 
-def copy_to(folder):
-    """Copies the crates, with what rt has built of them, and the tools."""
+def copy_to(folder, built=False):
+    """Copies crates and tools; where `built`, with what rt keeps of the crates (out/), so that it proves no more than what changed."""
+    left_out = None if built else shutil.ignore_patterns("out")
     for part in ("crates", "tools"):
-        shutil.copytree(os.path.join(ROOT, part), os.path.join(folder, part), symlinks=True)
+        shutil.copytree(os.path.join(ROOT, part), os.path.join(folder, part), symlinks=True, ignore=left_out)
     shutil.copy(os.path.join(ROOT, "crates.txt"), folder)
 
 
