@@ -1,14 +1,15 @@
 #!/usr/bin/env python3
 """Writes what the program `plantday` must print.
 
-Gate, dice and notes are simulated here a second time, from docs/ alone and sharing nothing with the crates,
-so the stored output is a check from outside. Usage: python3 tools/plant_day.py
+Gate, dice and notes are simulated, from docs/ alone and sharing nothing with the crates,
+so the stored output is a check from outside.
 """
 import os
 
-from plant_files import FourValuedGate, Gate
+from arguments import ROOT, takes_none
+from simulation import FOUR_VALUED, THREE_BITS, Gate
 
-HERE = os.path.join(os.path.dirname(os.path.abspath(__file__)), "..", "crates", "plantday")
+HERE = os.path.join(ROOT, "crates", "plantday")
 
 ARMS, TURNS, SEED = range(1, 7), 200000, 20261117
 
@@ -45,14 +46,14 @@ class Notes:
             self.since[arm] = self.rounds + 1
         elif before == "W" and after == "F":
             self.waited[arm] = max(self.waited[arm], self.rounds - self.since[arm])
-            self.passed[arm] = max(self.passed[arm], max(gate.row[arm]))
+            self.passed[arm] = max(self.passed[arm], gate.most_passed(arm))
 
     def moved(self, gate, arm):
         """The arm moved: a round is over once every arm that was not idle at its start has moved."""
         self.due.discard(arm)
         if not self.due:
             self.rounds += 1
-            self.due = {other for other in ARMS if gate.phase(other) != "I"}
+            self.due = gate.busy()
 
 
 def turn(gate, arm, dice, notes):
@@ -63,23 +64,24 @@ def turn(gate, arm, dice, notes):
         return
     if before == "F":
         notes.delivered[arm] += 1
-        gate.leave(arm)
+        gate.let_go(arm)
     else:
-        bit = gate.group
+        bit = gate.bit()
         gate.step(arm)
-        notes.turns += gate.group != bit
+        notes.turns += gate.bit() != bit
         notes.stepped(gate, arm, before)
     notes.moved(gate, arm)
 
 
-def day(gate):
-    dice, notes = Dice(), Notes()
+def day(door):
+    gate, dice, notes = Gate(door, len(ARMS)), Dice(), Notes()
     for _ in range(TURNS):
         turn(gate, dice.pick(), dice, notes)
     return notes
 
 
-def lines(notes, most_rounds):
+def lines(door):
+    notes, most_rounds = day(door), door.promised(len(ARMS))
     for arm in ARMS:
         delivered, passed, waited = notes.delivered[arm], notes.passed[arm], notes.waited[arm]
         yield f"arm {arm} delivered {delivered} passed {passed} of {MOST_PASSED} waited {waited} of {most_rounds}"
@@ -87,12 +89,12 @@ def lines(notes, most_rounds):
 
 
 def both_days():
-    n = len(ARMS)
-    yield from lines(day(Gate(n)), 8 * n + 20)
+    yield from lines(THREE_BITS)
     yield "through the four-valued door"
-    yield from lines(day(FourValuedGate(n)), 6 * n + 16)
+    yield from lines(FOUR_VALUED)
 
 
 if __name__ == "__main__":
+    takes_none(__doc__)
     with open(os.path.join(HERE, "stdout"), "w") as out:
         out.writelines(line + "\n" for line in both_days())

@@ -1,5 +1,7 @@
 /* The program gateplay as one would write it in C, for its cost alone: no contract, no proof, no layers.
-   It prints the same reports and fault lines. With -DFOUR_VALUED its gate has the four-valued door. */
+   It prints the same reports and fault lines. With -DFOUR_VALUED its gate has the four-valued door.
+   The doors are written out here once more, and not taken from the tables of tools/simulation.py: what gateplay costs is
+   compared with code that goes by no table. */
 #include <stdint.h>
 #include <stdio.h>
 #include <string.h>

@@ -7,31 +7,27 @@ arm at the three-bit door, 6 at the four-valued one. Three tricks add a few roun
 - Then, at the three-bit door, arm 1 begins again at once: w still reads the old side in its mygroup.
 - While w looks at the last arm, that one goes through two doorways. In between it turns the bit, but w reads the bit only later.
 """
-from rounds import Player
+from rounds import make
+
+from simulation import THREE_BITS, Gate
 
 
 class Writer:
     """Makes calls and puts them down, round after round. Where `apart`, admit and leave are two moves."""
 
     def __init__(self, door, n, apart):
-        self.door, self.apart, self.player = door, apart, Player(door, n)
-        self.gate, self.calls, self.owing = self.player.gate, [], set()
+        self.gate, self.apart, self.calls, self.owing = Gate(door, n), apart, [], set()
 
     def call(self, kind, arm):
-        assert self.player.call(kind, arm)
+        assert make(self.gate, kind, arm)
         self.calls.append((kind, arm))
 
     def go(self, arm):
         """The next call of an arm's visit."""
-        phase = self.gate.phase(arm)
-        if phase == "F":
-            admitted = arm in self.player.out
-            if not admitted:
-                self.call("admit", arm)
-            if admitted or not self.apart:
-                self.call("leave", arm)
-        else:
-            self.call("begin" if phase == "I" else "step", arm)
+        kind = self.gate.next_call(arm)
+        self.call(kind, arm)
+        if kind == "admit" and not self.apart:
+            self.call("leave", arm)
         self.owing.discard(arm)
 
     def go_to(self, arm, at):
@@ -52,13 +48,13 @@ class Writer:
                 self.go(beside)
         for arm in sorted(self.owing - {last}) + sorted(self.owing & {last}):
             self.go(arm)
-        self.owing = self.player.busy()
+        self.owing = self.gate.busy()
 
 
 def steps_ahead(writer, third):
     """The places at which w goes on looking come round every few rounds; with so many steps made before the first round, it is at W4
     in the round in which the other arm gets idle. That comes a round later where moves are apart, and where arms follow the third."""
-    around = {"three_bits": 3, "four_valued": 2}[writer.door]
+    around = sum(at >= "W4" for at in writer.gate.door.rows if at[0] == "W")  # W4 and the waiting places after it
     return (1 - writer.apart - (third < writer.gate.n)) % around
 
 
@@ -117,10 +113,10 @@ def schedule(door, n, apart=True):
     else:
         writer.go_to(w, "W1")
     before = len(writer.calls)
-    writer.owing = writer.player.busy()
+    writer.owing = writer.gate.busy()
     if n > 2:
         wait_for_other(writer, w, other, third)
-        if door == "three_bits":
+        if door is THREE_BITS:
             begin_again(writer, w, other, third)
     wait_for_all(writer, w, third)
     end = max(k for k, call in enumerate(writer.calls) if call[1] == w) + 1

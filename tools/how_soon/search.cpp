@@ -1,18 +1,22 @@
 // Goes through all gates that calls lead to from the making on, and tells for how many rounds an arm can wait.
-// Usage: search three_bits|four_valued ARMS
+// Usage: python3 tools/simulation.py three_bits|four_valued | search ARMS
+// Reads the table of a door as tools/simulation.py prints it.
 // Prints how many gates there are; of each arm the most whole rounds that a list of calls can have at all of whose states it waits;
 // the first arm with the most of all; and such a list for it, as the arms whose calls it has: first those from the making on
 // until the arm waits and the rounds begin, then those of the rounds.
 // Up to 3 arms it takes seconds. With 4 it takes minutes and some gigabytes of memory.
 //
-// A gate is its registers and the position, side and mark of each arm. In any gate each arm has just one call that is accepted and
-// alters anything: begin where it is idle, admit or leave where it is inside, step elsewhere. All but begin are moves. The other
+// A gate is its registers and the position, index, side and mark of each arm. In any gate each arm has just one call that is accepted
+// and alters anything: begin where it is idle, admit or leave where it is inside, step elsewhere. All but begin are moves. The other
 // calls alter nothing and are no moves, so a list without them has the same rounds. No limit of visits is kept, so nothing is missed.
 
 #include <cassert>
 #include <cstdio>
 #include <cstdlib>
 #include <cstring>
+#include <iostream>
+#include <map>
+#include <sstream>
 #include <string>
 #include <unordered_map>
 #include <vector>
@@ -22,13 +26,29 @@ typedef unsigned long long Code;
 
 const int MOST_ARMS = 4;
 
-// The positions of an arm: a doorway of up to five, and for each arm that it looks at up to six places.
-enum { IDLE, INSIDE, ADMITTED, TURN, REST, DOORWAY, WAITING = DOORWAY + 5, POSITIONS = WAITING + 6 * MOST_ARMS };
+// The registers of an arm, their highest value, and the rows of a door: so many at most.
+const int MOST_REGISTERS = 3, HIGHEST = 3, MOST_ROWS = 16;
+
+// The positions of an arm. Its pass is out where it is admitted; from FIRST_ROW on they are the rows of the door's table.
+enum { IDLE, INSIDE, ADMITTED, FIRST_ROW };
+
+// Where a row leads besides a position: to the first waiting row at the next arm, or inside where there is none.
+const int NEXT = -1;
+
+// The values that a row names by the side of the arm; any other is the value itself.
+enum { SIDE = HIGHEST + 1, OTHER_SIDE, NEW_SIDE };
+
+enum Whose { GROUP, OWN, OF_J };
+
+struct Row {
+    bool writes;
+    Whose whose;
+    int number, value, then, otherwise;
+};
 
 struct Arm {
-    int at, side;
-    int choosing, mygroup, flag; // at the three-bit door
-    int state;                   // at the four-valued door
+    int at, looked_at, side; // the arm that it looks at where it waits, else 0; a side that is missing is 0
+    int registers[MOST_REGISTERS];
 };
 
 struct Gate {
@@ -37,86 +57,53 @@ struct Gate {
 };
 
 static int n;
-static bool four_valued;
+static std::string door;
+static vector<int> first_values;
+static vector<Row> rows;
+static int doorway, waiting, leaving; // where the rows of each phase begin
 
-static bool waits(const Gate &g, int i) { return g.arms[i].at >= WAITING; }
+static bool waits(const Gate &g, int i) { return g.arms[i].at >= waiting && g.arms[i].at < leaving; }
 
-static int place(int looked_at, int k) { return WAITING + 6 * looked_at + k - 1; }
-
-static int onward(int looked_at) { return looked_at + 1 < n ? place(looked_at + 1, 1) : INSIDE; }
-
-static void exit_step(Gate &g, Arm &a) {
-    if (a.at == TURN) {
-        g.group = 1 - a.side;
-        a.at = REST;
-    } else {
-        a.flag = 0;
-        a.state = 3;
-        a.side = 0; // missing
-        a.at = IDLE;
-    }
+static int value_of(const Row &row, const Arm &a) {
+    return row.value == SIDE ? a.side : row.value == OTHER_SIDE ? 1 - a.side : row.value;
 }
 
-static void doorway_three_bits(Gate &g, Arm &a) {
-    switch (a.at - DOORWAY) {
-    case 0: a.choosing = 1; break;
-    case 1: a.side = g.group; break;
-    case 2: a.mygroup = a.side; break;
-    case 3: a.flag = 1; break;
-    case 4: a.choosing = 0; break;
+// Takes an arm to where its row leads.
+static void go(Arm &a, int then) {
+    if (then == NEXT) {
+        a.looked_at++;
+        then = a.looked_at < n ? waiting : INSIDE;
     }
-    a.at = a.at == DOORWAY + 4 ? place(0, 1) : a.at + 1;
+    if (then == INSIDE) a.looked_at = 0;
+    if (then == IDLE) a.side = 0;
+    a.at = then;
 }
 
-static void wait_three_bits(Gate &g, Arm &a) {
-    int j = (a.at - WAITING) / 6, next = onward(j);
-    const Arm &other = g.arms[j];
-    switch ((a.at - WAITING) % 6 + 1) {
-    case 1: a.at = g.group == a.side ? place(j, 2) : INSIDE; break;
-    case 2: a.at = other.choosing == 0 ? place(j, 3) : place(j, 2); break;
-    case 3: a.at = other.mygroup == a.side ? next : place(j, 4); break;
-    case 4: a.at = other.flag == 0 ? next : place(j, 5); break;
-    case 5: a.at = g.group == a.side ? place(j, 6) : next; break;
-    case 6: a.at = other.mygroup == a.side ? next : place(j, 4); break;
-    }
-}
-
-static void doorway_four_valued(Gate &g, Arm &a) {
-    switch (a.at - DOORWAY) {
-    case 0: a.state = 2; break;
-    case 1: a.side = g.group; break;
-    case 2: a.state = a.side; break;
-    }
-    a.at = a.at == DOORWAY + 2 ? place(0, 1) : a.at + 1;
-}
-
-static void wait_four_valued(Gate &g, Arm &a) {
-    int j = (a.at - WAITING) / 6, next = onward(j), state = g.arms[j].state;
-    switch ((a.at - WAITING) % 6 + 1) {
-    case 1: a.at = g.group == a.side ? place(j, 2) : INSIDE; break;
-    case 2: a.at = state == 2 ? place(j, 2) : place(j, 3); break;
-    case 3: a.at = state == 1 - a.side ? place(j, 4) : next; break;
-    case 4: a.at = state == 1 - a.side ? place(j, 5) : next; break;
-    case 5: a.at = g.group == a.side ? place(j, 4) : next; break;
-    }
+// Makes the one access of the row at which arm i is.
+static void step(Gate &g, int i) {
+    Arm &a = g.arms[i];
+    const Row &row = rows[a.at - FIRST_ROW];
+    int &place = row.whose == GROUP ? g.group : g.arms[row.whose == OWN ? i : a.looked_at].registers[row.number];
+    if (row.writes) place = value_of(row, a);
+    if (row.value == NEW_SIDE) a.side = place;
+    bool equal = row.value == NEW_SIDE || place == value_of(row, a);
+    go(a, equal ? row.then : row.otherwise);
 }
 
 // The one call of arm i that alters anything.
 static void call(Gate &g, int i) {
-    Arm &a = g.arms[i];
-    if (a.at == IDLE) a.at = DOORWAY;
-    else if (a.at == INSIDE) a.at = ADMITTED;
-    else if (a.at == ADMITTED) a.at = TURN;
-    else if (a.at < DOORWAY) exit_step(g, a);
-    else if (waits(g, i)) four_valued ? wait_four_valued(g, a) : wait_three_bits(g, a);
-    else four_valued ? doorway_four_valued(g, a) : doorway_three_bits(g, a);
+    int &at = g.arms[i].at;
+    if (at == IDLE) at = doorway;
+    else if (at == INSIDE) at = ADMITTED;
+    else if (at == ADMITTED) at = leaving;
+    else step(g, i);
 }
 
 static Gate made() {
     Gate g;
     memset(&g, 0, sizeof g);
-    if (four_valued)
-        for (Arm &a : g.arms) a.state = 3;
+    for (Arm &a : g.arms)
+        for (size_t k = 0; k < first_values.size(); k++) a.registers[k] = first_values[k];
     return g;
 }
 
@@ -124,10 +111,44 @@ static Code code_of(const Gate &g) {
     Code code = g.group;
     for (int i = 0; i < n; i++) {
         const Arm &a = g.arms[i];
-        int registers = four_valued ? a.state : 4 * a.choosing + 2 * a.mygroup + a.flag;
-        code = ((code * POSITIONS + a.at) * 2 + a.side) * 8 + registers;
+        code = ((code * (FIRST_ROW + MOST_ROWS) + a.at) * MOST_ARMS + a.looked_at) * 2 + a.side;
+        for (int value : a.registers) code = code * (HIGHEST + 1) + value;
     }
     return code;
+}
+
+// The words of a line.
+static vector<std::string> words_of_line() {
+    std::string line, word;
+    std::getline(std::cin, line);
+    std::istringstream in(line);
+    vector<std::string> words;
+    while (in >> word) words.push_back(word);
+    return words;
+}
+
+static int value_named(const std::string &word) {
+    return word == "side" ? SIDE : word == "other_side" ? OTHER_SIDE : word == "new_side" ? NEW_SIDE : atoi(word.c_str());
+}
+
+// A line of the table is: position, access, whose register, its number, value, then, otherwise.
+static void read_door() {
+    door = words_of_line().at(0);
+    for (const std::string &word : words_of_line()) first_values.push_back(atoi(word.c_str()));
+    std::map<std::string, int> positions = {{"I", IDLE}, {"F", INSIDE}, {"next", NEXT}};
+    std::map<std::string, Whose> owners = {{"group", GROUP}, {"own", OWN}, {"of_j", OF_J}};
+    vector<vector<std::string>> lines;
+    for (vector<std::string> words = words_of_line(); words.size() == 7; words = words_of_line()) {
+        positions[words[0]] = FIRST_ROW + (int)lines.size();
+        lines.push_back(words);
+    }
+    for (const vector<std::string> &words : lines)
+        rows.push_back({words[1] == "write", owners.at(words[2]), atoi(words[3].c_str()), value_named(words[4]),
+                        positions.at(words[5]), positions.at(words[6])});
+    doorway = positions.at("D1");
+    waiting = positions.at("W1");
+    leaving = positions.at("X1");
+    assert(first_values.size() <= MOST_REGISTERS && rows.size() <= MOST_ROWS);
 }
 
 // All gates that calls lead to, each with a number: where the call of each arm leads, who is not idle, who waits, and whence it came.
@@ -231,12 +252,11 @@ static void print_list(const vector<vector<int>> &kept, int w, vector<int> &befo
 }
 
 int main(int count, char **words) {
-    if (count != 3) return 2;
-    four_valued = !strcmp(words[1], "four_valued");
-    n = atoi(words[2]);
+    n = count == 2 ? atoi(words[1]) : 0;
     if (n < 1 || n > MOST_ARMS) return 2;
+    read_door();
     find_all();
-    printf("%s %d %zu", words[1], n, known.size());
+    printf("%s %d %zu", door.c_str(), n, known.size());
     vector<int> before(known.size() << n);
     vector<vector<int>> longest;
     int longest_of = 0;

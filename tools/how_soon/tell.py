@@ -2,48 +2,42 @@
 import subprocess
 import sys
 
-from rounds import Player, rounds_waiting
+from rounds import make, rounds_waiting
 from schedules import schedule
 
-from plant_files import file_of
+from schedule_files import ORDER_OF, file_of
+from simulation import DOORS, THREE_BITS, Gate
 
-# Promised: inside within so many rounds an arm, and some more.
-PROMISED = {"three_bits": (8, 20), "four_valued": (6, 16)}
 COUNTS = (1, 2, 3, 4, 8, 32, 100)
 PLAYED = 32
 
 
-def promised(door, n):
-    slope, more = PROMISED[door]
-    return slope * n + more
-
-
-def calls_of(player, arms):
+def calls_of(gate, arms):
     """The next call of the visit of each arm in turn."""
     calls = []
     for arm in map(int, arms):
-        inside = "leave" if arm in player.out else "admit"
-        calls.append(({"I": "begin", "F": inside}.get(player.gate.phase(arm), "step"), arm))
-        assert player.call(*calls[-1])
+        calls.append((gate.next_call(arm), arm))
+        assert make(gate, *calls[-1])
     return calls
 
 
 def tell_search(line):
-    door, n, gates, *most, w, way, waiting = line.split()
-    n, most, player = int(n), [int(k) for k in most], Player(door, int(n))
-    before, calls = calls_of(player, way), calls_of(player, waiting)
+    name, n, gates, *most, w, way, waiting = line.split()
+    door, n, most = DOORS[name], int(n), [int(k) for k in most]
+    gate = Gate(door, n)
+    before, calls = calls_of(gate, way), calls_of(gate, waiting)
     assert rounds_waiting(door, n, before, calls, int(w)) == (max(most), "W")
-    assert max(most) < promised(door, n)
+    assert max(most) < door.promised(n)
     rounds = " ".join(map(str, most))
-    print(f"{door} arms {n} gates {gates}: whole rounds while an arm waits {rounds}; so inside within {max(most) + 1}, "
-          f"promised {promised(door, n)}")
+    print(f"{name} arms {n} gates {gates}: whole rounds while an arm waits {rounds}; so inside within {max(most) + 1}, "
+          f"promised {door.promised(n)}")
 
 
 def tell_schedule(door, n):
     before, calls, w = schedule(door, n)
     rounds, phase = rounds_waiting(door, n, before, calls, w)
-    assert phase == "F" and rounds < promised(door, n)
-    print(f"{door} arms {n}: whole rounds while arm {w} waits {rounds}, inside in round {rounds + 1}, promised {promised(door, n)}")
+    assert phase == "F" and rounds < door.promised(n)
+    print(f"{door.name} arms {n}: whole rounds while arm {w} waits {rounds}, inside in round {rounds + 1}, promised {door.promised(n)}")
 
 
 def phase_played(gateplay, n, orders, w):
@@ -54,13 +48,16 @@ def phase_played(gateplay, n, orders, w):
     return arms[w - 1].split()[1]
 
 
+def orders_of(calls):
+    """The orders that make the calls. The one that an arm leaves makes both admit and leave."""
+    return [(ORDER_OF[kind], arm) for kind, arm in calls if kind in ORDER_OF]
+
+
 def tell_played(gateplay, n):
-    """A schedule file has no admits: a leave makes both calls."""
-    before, calls, w = schedule("three_bits", n, apart=False)
-    rounds, _ = rounds_waiting("three_bits", n, before, calls, w)
-    kinds = {"begin": 0, "step": 1, "leave": 2}
-    orders = [(kinds[kind], arm) for kind, arm in before + calls if kind != "admit"]
-    phases = [phase_played(gateplay, n, some, w) for some in (orders[:len(before)], orders[:-1], orders)]
+    before, calls, w = schedule(THREE_BITS, n, apart=False)
+    rounds, _ = rounds_waiting(THREE_BITS, n, before, calls, w)
+    first, orders = orders_of(before), orders_of(before + calls)
+    phases = [phase_played(gateplay, n, some, w) for some in (first, orders[:-1], orders)]
     print(f"three_bits arms {n}, by gateplay: arm {w} in {phases[0]} at first, in {phases[1]} after {rounds} whole rounds, "
           f"in {phases[2]} after the last order")
 
@@ -70,7 +67,7 @@ def main():
     for line in sys.stdin:
         tell_search(line)
     print("schedules")
-    for door in PROMISED:
+    for door in DOORS.values():
         for n in COUNTS:
             tell_schedule(door, n)
     tell_played(sys.argv[1], PLAYED)
