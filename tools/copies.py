@@ -9,7 +9,8 @@ def crates_below():
     """The crates of crates.txt, lowest first, each with those below it."""
     with open(os.path.join(ROOT, "crates.txt"), encoding="utf-8") as lines:
         listed = [line.split("#")[0].partition(":") for line in lines]
-    return {name.strip(): below.split() for name, _, below in listed if name.strip()}
+    # A static library has a word after its name.
+    return {name.split()[0]: below.split() for name, _, below in listed if name.strip()}
 
 
 def copy_to(folder, built=False):
