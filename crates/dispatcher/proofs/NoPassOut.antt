@@ -1,61 +1,27 @@
 -- Between two moves no pass is out.
-use Rattle.std.proofs.Common.{◌≡◌, ℕ, ◌-◌, true, false, T, List, [], ◌∷◌, get_or, set, Some, None, Option, subst, sym, refl, ◌∙◌, arith}
-use Rattle.std.proofs.lemmas.Bool.Decides.{nat_tests}
-use Rattle.std.proofs.lemmas.List.{get_or-set_same, get_or-set_other, set_past, length-set}
+use Rattle.std.proofs.Common.{◌≡◌, ℕ, T, List, [], ◌∷◌, None, Some, Option, subst, sym, arith}
 use Rattle.gate_model.specs.Making.{Making}
-use Rattle.gate_model.specs.Limits.{arm_limit}
-use Rattle.gate_model.specs.Arms.{fresh, no_arm}
-use Rattle.gate_model.specs.Calls.{refusal_of, knows, unless, with_visit, arm_after, stepped, done, after, run}
-use Rattle.gate_model.specs.States.{State, made, arm_at, phase_at, with_arm}
+use Rattle.gate_model.specs.Calls.{refusal_of, run}
+use Rattle.gate_model.specs.States.{State, made}
 use Rattle.gate_model.specs.Table.{Table}
-use Rattle.gate_model.specs.declared.arm.Arm.{Arm}
-use Rattle.gate_model.specs.declared.call.Call.TheVariants.{Begin, Step, Admit, Leave}
-use Rattle.gate_model.specs.declared.refusal.Refusal.TheVariants as R
-use Rattle.gate_model.proofs.Accepted.{unless_both}
+use Rattle.gate_model.specs.declared.call.Call.TheVariants.{Admit}
 use Rattle.gate_model.proofs.Bools.{by}
-use Rattle.gate_model.proofs.Bounds.{kept_replicate}
-use Rattle.gate_model.proofs.SameButRow.{tallied_table}
+use Rattle.gate_model.proofs.Unmarked.{unmarked_begun, unmarked_stepped, unmarked_left, unmarked_made}
 use Rattle.dispatcher.specs.Dispatchers.{NoPassOut}
 use Rattle.dispatcher.specs.Moves.{opening, is_inside, serving_any}
 
 module _ {At : Type 0} (door : Table At) where
-  -- every record at its place in the table
-  abbrev Unmarked : List (Arm At) → Type 0
-  Unmarked arms = (i : ℕ) → (get_or arms (i - 1) (no_arm door)).out ≡ false
-
-  set_unmarked : (arms : List (Arm At)) (j : ℕ) (a : Arm At) → a.out ≡ false → Unmarked arms → Unmarked (set arms j a)
-  set_unmarked arms j a h u i = let x = u i in grind (arith, get_or-set_same, get_or-set_other, set_past)
-
-  set_twice : (arms : List (Arm At)) (j : ℕ) (a b : Arm At) → b.out ≡ false → Unmarked arms → Unmarked (set (set arms j a) j b)
-  set_twice arms j a b h u i = let x = u i in grind (arith, get_or-set_same, get_or-set_other, set_past, length-set)
-
-  still_unmarked : (arms : List (Arm At)) (j : ℕ) (a : Arm At) → (get_or (set arms j a) j (no_arm door)).out ≡ false → Unmarked arms → Unmarked (set arms j a)
-  still_unmarked arms j a h u i = let x = u i in grind (arith, get_or-set_other)
-
-  stepped_so : (s : State At) (i : ℕ) → NoPassOut door s → NoPassOut door (stepped door i s)
-  stepped_so s i u k =
-      ((tallied_table door (i - 1) (phase_at door s i) (door.phase (arm_after door s i).position) (set s.arms (i - 1) (arm_after door s i))).0 (k - 1)).2
-      ∙ set_unmarked s.arms (i - 1) (arm_after door s i) (u i) u k
-
-  -- an arm is admitted, and leaves with its pass
-  admitted_left : (s : State At) (i : ℕ) → T (is_inside door s i) → NoPassOut door s → NoPassOut door (after door (after door s (Admit i)) (Leave s.number i))
-  admitted_left s i h u =
-      let marked = with_visit (arm_at door s i).position (arm_at door s i).visits true (arm_at door s i) in
-      let t = with_arm i marked s in
-      let may : refusal_of door s (Admit i) ≡ None = let x = u i in grind arith in
-      subst (λ r. NoPassOut door (after door (unless r t s) (Leave s.number i))) (sym may)
-      (by (λ r. NoPassOut door (unless r (done door t (Leave s.number i)) t)) (knows door t s.number i) None (Some R.StrangePass)
-      (λ _. set_twice s.arms (i - 1) marked _ refl u)
-      (λ n. still_unmarked s.arms (i - 1) marked (let z = h in grind (arith, nat_tests)) u))
+  admitted : (s : State At) (i : ℕ) → T (is_inside door s i) → NoPassOut door s → refusal_of door s (Admit i) ≡ None
+  admitted s i h u = let x = u i in grind arith
 
   pub opening_spent : (s : State At) (asked : List ℕ) → NoPassOut door s → NoPassOut door (run door s (opening asked))
   opening_spent s [] u = u
-  opening_spent s (i ∷ more) u = unless_both (refusal_of door s (Begin i)) _ s (NoPassOut door) (λ _. set_unmarked s.arms (i - 1) _ (u i) u) u
+  opening_spent s (i ∷ more) u = unmarked_begun door s i u
 
   pub serving_spent : (s : State At) (r : Option ℕ) → NoPassOut door s → NoPassOut door (run door s (serving_any door s r))
   serving_spent s None u = u
-  serving_spent s (Some i) u = by (λ cs. NoPassOut door (run door s cs)) (is_inside door s i) _ _ (λ y. admitted_left s i y u)
-      (λ _. unless_both (refusal_of door s (Step i)) (stepped door i s) s (NoPassOut door) (λ _. stepped_so s i u) u)
+  serving_spent s (Some i) u = by (λ cs. NoPassOut door (run door s cs)) (is_inside door s i) _ _
+      (λ y. unmarked_left door s i (admitted s i y u) u) (λ _. unmarked_stepped door s i u)
 
   pub started_spent : (making : Making) (s : State At) → s ≡ made door making → NoPassOut door s
-  started_spent making s e = subst (NoPassOut door) (sym e) (λ i. kept_replicate (λ a. a.out ≡ false) arm_limit (fresh door) (no_arm door) refl refl (i - 1))
+  started_spent making s e = subst (NoPassOut door) (sym e) (unmarked_made door making)

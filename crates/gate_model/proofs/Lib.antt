@@ -27,5 +27,11 @@ pub mod Spared
 pub mod Makeable
 -- the index of an arm
 pub mod Indexes
--- gates over unlike banks that go the same way
+-- records as far as the arms go; gates over unlike banks that go the same way
+pub mod Seen
 pub mod Twins
+-- records with no pass out; a pass is out only of an arm that is inside
+pub mod Unmarked
+pub mod PassesInside
+-- a gate with no visit begun is the gate just made
+pub mod AsMade

@@ -17,3 +17,5 @@ pub mod Doorways
 pub mod Indexes
 pub mod Law
 pub mod Accesses
+pub mod SameButMarks
+pub mod Unbegun
