@@ -13,6 +13,7 @@ use Rattle.play.specs.Playing.{over, end, play_text, play_answer, play_memory, p
 use Rattle.play.specs.Reports.{report_text, text_answer, text_memory}
 use Rattle.play.specs.Text.{overwritten}
 use Rattle.play.proofs.OtherBank.{text_same}
+use Rattle.recordday.specs.Reports.{order_total}
 use Rattle.recorder.specs.Law.{IsRecord}
 use Rattle.recorder.specs.Recorders.{Recording}
 use Rattle.schedule.specs.FileLimits.{file_limit}
@@ -65,27 +66,29 @@ module _ {At : Type 0} (door : Table At) where
       let size : Ok (length (play_text door lent high regs c)) ≡ Ok n = ap (play_answer door lent high regs) (sym p) ∙ e in
       record { size = cc; left_is = f ∙ ap (play_memory door lent high regs memory) p }
 
-  -- both lengths are the same, and so are both memories if they were
-  pub record BothSame (n m : ℕ) (recorded played left other : List ℕ) : Type 0 where
-    pub lengths : n ≡ m
-    pub memories : recorded ≡ played → left ≡ other
+  -- both memories took the same text
+  pub record BothTold (text : List ℕ) (n m : ℕ) (recorded played left other : List ℕ) : Type 0 where
+    pub first : (n ≡ length text) × (left ≡ overwritten recorded text)
+    pub second : (m ≡ length text) × (other ≡ overwritten played text)
 
-  pub both_same : ((n : ℕ) → 1 ≤ door.room n) → (r : Recording At) (bytes file : List ℕ) (orders : List Order) (lent : Lent) (high : ℕ) (regs : List ℕ) (gate : State At) (h : Heading) (n m : ℕ) (recorded played left other : List ℕ)
+  pub both_told : ((n : ℕ) → 1 ≤ door.room n) → (r : Recording At) (bytes file : List ℕ) (orders : List Order) (lent : Lent) (high : ℕ) (regs : List ℕ) (gate : State At) (h : Heading) (n m : ℕ) (recorded played left other : List ℕ)
       → IsRecord door r bytes orders → file ≡ bytes → r.written ≤ file_limit → arms_for door high (length regs) r.gate.n ≡ r.gate.n
       → gate ≡ r.gate → heading_of (says file) ≡ Ok h
       → text_answer recorded (report_text door gate h.orders 0) ≡ Ok n → left ≡ text_memory recorded (report_text door gate h.orders 0)
       → play_answer door lent high regs (playable file (length played)) ≡ Ok m → other ≡ play_memory door lent high regs played (playable file (length played))
-      → BothSame n m recorded played left other
-  both_same some_room r bytes file orders lent high regs gate h n m recorded played left other record_is e short gives g head a f b k =
+      → BothTold (report_text door r.gate (order_total (says file)) 0) n m recorded played left other
+  both_told some_room r bytes file orders lent high regs gate h n m recorded played left other record_is e short gives g head a f b k =
       let c = contents r.gate.n orders in
       let said : says file ≡ Ok c = ap says e ∙ record_is.reads_back in
       let size : length file ≤ file_limit = (let s = ap length e in let z = record_is.size in omega (arith, s, z, short)) in
+      let total : order_total (says file) ≡ length orders = ap order_total said in
       let counted : h.orders ≡ length orders = (let x = ap heading_of (sym said) ∙ head in cc) in
       let told = taken (nat_le report_room (length recorded)) n (report_text door gate h.orders 0) recorded left a f in
       let again = played_so lent high regs file played other c m size said b k in
-      let same = same_text some_room r bytes orders lent high regs record_is gives in
-      let text : report_text door gate h.orders 0 ≡ play_text door lent high regs c = ap₂ (λ s o. report_text door s o 0) g counted ∙ sym same in
+      let first : report_text door gate h.orders 0 ≡ report_text door r.gate (order_total (says file)) 0 = ap₂ (λ s o. report_text door s o 0) g (counted ∙ sym total) in
+      let second : play_text door lent high regs c ≡ report_text door r.gate (order_total (says file)) 0 =
+      same_text some_room r bytes orders lent high regs record_is gives ∙ ap (λ o. report_text door r.gate o 0) (sym total) in
       record {
-        lengths = told.size ∙ ap length text ∙ sym again.size;
-        memories = λ x. told.left_is ∙ ap₂ overwritten x text ∙ sym again.left_is;
+        first = (told.size ∙ ap length first, told.left_is ∙ ap (overwritten recorded) first);
+        second = (again.size ∙ ap length second, again.left_is ∙ ap (overwritten played) second);
       }

@@ -1,6 +1,6 @@
 ghost use Rattle.std.specs.Prelude.{◌≤◌, IfErr, IfOk, IfSome};
 ghost use Rattle.recordday.specs.Day.{IsOut};
-ghost use Rattle.recorder.specs.Kept.{IsKept};
+ghost use Rattle.recorder.specs.Kept.{HoldsRecord};
 
 use bank::Bank;
 use doors::Door;
@@ -9,15 +9,15 @@ use gate_model::Phase;
 use recorder::{HandedBack, Recorder, Refusal, start};
 
 // How many arms the gate has.
-pub const ARMS: usize = 6;
+pub(crate) const ARMS: usize = 6;
 
 // How many bytes of memory the file has. No day has more turns, since each that is not refused writes a byte at least.
-pub const MEMORY: usize = 266;
+pub(crate) const MEMORY: usize = 266;
 
 // Why a turn was not made; the pass is in hand where the leave was refused.
-pub struct Refused {
-    pub refusal: Refusal,
-    pub pass: Option<Pass>,
+pub(crate) struct Refused {
+    pub(crate) refusal: Refusal,
+    pub(crate) pass: Option<Pass>,
 }
 
 impl From<Refusal> for Refused {
@@ -48,16 +48,16 @@ impl From<HandedBack> for Refused {
 }
 
 // Starts the file of a gate, and hands the gate over.
-pub fn begin_day<B: Bank + Drop, D: Door>(
+pub(crate) fn begin_day<B: Bank + Drop, D: Door>(
     gate: Gate<B, D>,
     file: &mut [u8],
 ) -> Result<Recorder<B, D>, Refusal>
-    ensures { IfOk result (λ recorder. IsKept D.table recorder file.new) }
+    ensures { IfOk result (λ recorder. HoldsRecord D.table recorder file.new) }
 {
     Ok(start(&gate, file)?.over(gate))
 }
 
-// The arm whose turn it is: arms 1 and 4 have two turns of three.
+// The arm whose turn it is: of 18 turns, arms 1 and 4 have five each, the others two.
 fn arm_of_turn(turn: usize) -> usize
     requires { turn ≤ MEMORY }
 {
@@ -71,7 +71,7 @@ fn end_visit<B: Bank, D: Door>(
     file: &mut [u8],
 ) -> Result<Phase, Refused>
     ensures out { IfErr result (λ refused. IsOut D.table recorder.new.gate refused.pass) }
-    ensures kept { IsKept D.table recorder.old file.old → IsKept D.table recorder.new file.new }
+    ensures kept { HoldsRecord D.table recorder.old file.old → HoldsRecord D.table recorder.new file.new }
 {
     let pass = recorder.admit(arm, file)?;
     Ok(recorder.leave(pass, file)?)
@@ -84,7 +84,7 @@ fn take_turn<B: Bank, D: Door>(
     file: &mut [u8],
 ) -> Result<Phase, Refused>
     ensures out { IfErr result (λ refused. IsOut D.table recorder.new.gate refused.pass) }
-    ensures kept { IsKept D.table recorder.old file.old → IsKept D.table recorder.new file.new }
+    ensures kept { HoldsRecord D.table recorder.old file.old → HoldsRecord D.table recorder.new file.new }
 {
     match recorder.gate().phase(arm) {
         Ok(Phase::F) => end_visit(recorder, arm, file),
@@ -98,9 +98,9 @@ pub(crate) fn record_day<B: Bank, D: Door>(
     recorder: &mut Recorder<B, D>,
     file: &mut [u8],
 ) -> (usize, Option<Refused>)
-    requires { IsKept D.table recorder.old file.old }
+    requires { HoldsRecord D.table recorder.old file.old }
     ensures out { IfSome result.1 (λ refused. IsOut D.table recorder.new.gate refused.pass) }
-    ensures kept { IsKept D.table recorder.new file.new }
+    ensures kept { HoldsRecord D.table recorder.new file.new }
 {
     for turn in 1..MEMORY + 1 {
         if let Err(refused) = take_turn(recorder, arm_of_turn(turn), file) {

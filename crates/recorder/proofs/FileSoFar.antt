@@ -19,7 +19,7 @@ use Rattle.schedule.specs.Writing.{file_bytes, written_at}
 use Rattle.schedule.proofs.FromList.{reads_back}
 use Rattle.recorder.proofs.InHand.{groups_few}
 use Rattle.recorder.specs.Law.{recorded, bytes_after, written_by, InPlace, begun}
-use Rattle.recorder.specs.Recorders.{Recording, Handed, order_of, order_size, written_down, added, after_call, after_calls}
+use Rattle.recorder.specs.Recorders.{Recording, Handed, written_as, order_size, written_down, added, after_call, after_calls}
 
 -- so many bytes were written, and they are the file of these orders, each of one of so many arms
 pub record IsFile (arms written : ℕ) (bytes : List ℕ) (orders : List Order) : Type 0 where
@@ -62,7 +62,7 @@ one_or_none arms written bytes memory orders (Some o) f fits place = one_order a
 
 module _ {At : Type 0} (door : Table At) where
   -- the order of an accepted call is for an arm of the gate
-  arm_known : (s : State At) (c : Call) (o : Order) → refusal_of door s c ≡ None → order_of c ≡ Some o → arm_of_order o ≤ s.n
+  arm_known : (s : State At) (c : Call) (o : Order) → refusal_of door s c ≡ None → written_as c ≡ Some o → arm_of_order o ≤ s.n
   arm_known s c o e is = grind (arith, nat_tests)
 
   -- an order that is added fits

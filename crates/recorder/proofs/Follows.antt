@@ -37,8 +37,8 @@ module _ {At : Type 0} (door : Table At) where
   pub accepted_is : (s : State At) (c : Call) → refusal_of door s c ≡ None → after door s c ≡ done door s c
   accepted_is s c e = ap (λ r. unless r (done door s c) s) e
 
-  admits : (p : Phase) (o : Bool) → T (same_phase p P.F) → o ≡ false → admit_refusal p o ≡ None
-  admits p o h e = grind arith
+  free_to_admit : (p : Phase) (o : Bool) → T (same_phase p P.F) → o ≡ false → admit_refusal p o ≡ None
+  free_to_admit p o h e = grind arith
 
   -- an admit, which is not written, alters a mark
   admitted_same : (s t : State At) (i : ℕ) → i - 1 < s.n → Same door false s t → Same door false (done door s (admit i)) t
@@ -62,7 +62,7 @@ module _ {At : Type 0} (door : Table At) where
     unmarked = f.unmarked;
   }
 
-  -- a leave of arm i, which is written, and what obeying it does: it admits the arm and lets it leave
+  -- a leave of arm i, which is written, and what obeying it does: it free_to_admit the arm and lets it leave
   module _ (s t : State At) (g i : ℕ) (e : refusal_of door s (leave g i) ≡ None) (f : Follows s t) where
     known : T (is_arm s i && (arm_at door s i).out)
     known = (and_T (eqb g s.number) _ (leave_none (knows door s g i) e)).1
@@ -81,7 +81,7 @@ module _ {At : Type 0} (door : Table At) where
         (pass_inside door s f.twins.origin i (and_T (is_arm s i) _ known).1)
 
     pub may_admit : refusal_of door t (admit i) ≡ None
-    may_admit = let y = admits (phase_at door t i) (arm_at door t i).out inside (f.unmarked i) in let k = in_second in grind arith
+    may_admit = let y = free_to_admit (phase_at door t i) (arm_at door t i).out inside (f.unmarked i) in let k = in_second in grind arith
 
     abbrev let_in : State At
     let_in = done door t (admit i)

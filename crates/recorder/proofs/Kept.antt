@@ -1,5 +1,5 @@
 -- A call, accepted or refused, leaves the file at the start of the memory that came with it.
-use Rattle.std.proofs.Common.{◌≡◌, ℕ, ◌+◌, ◌≤◌, Bool, true, false, T, ◌&&◌, not, if◌then◌else◌, List, [], ◌∷◌, ◌++◌, length, take, Some, None, Option, is_some, sym, refl, ap, ap₂, ◌∙◌, arith}
+use Rattle.std.proofs.Common.{◌≡◌, ℕ, ◌+◌, ◌≤◌, Bool, true, false, T, ◌&&◌, not, if◌then◌else◌, List, [], ◌∷◌, ◌++◌, length, take, Some, None, Option, is_some, sym, refl, ap, ap₂, subst, ◌∙◌, arith}
 use Rattle.std.proofs.lemmas.Grind.{common_steps}
 use Rattle.std.proofs.lemmas.Bool.Decides.{nat_tests}
 use Rattle.gate_model.specs.History.{accepted}
@@ -7,9 +7,9 @@ use Rattle.gate_model.specs.States.{State}
 use Rattle.gate_model.specs.Table.{Table}
 use Rattle.gate_model.specs.declared.call.Call.{Call}
 use Rattle.recorder.proofs.InHand.{groups_few, after_calls_append}
-use Rattle.recorder.specs.Kept.{Kept, IsKept}
-use Rattle.recorder.specs.Law.{InPlace, begun, bytes_after, written_by}
-use Rattle.recorder.specs.Recorders.{Recording, Handed, handed, order_of, order_size, written_down, has_room, added, after_call, memory_after, after_calls}
+use Rattle.recorder.specs.Kept.{Kept, HoldsRecord, LawInHand}
+use Rattle.recorder.specs.Law.{InPlace, IsRecord, LawOfRecords, begun, bytes_after, recorded, written_by}
+use Rattle.recorder.specs.Recorders.{Recording, Handed, handed, written_as, order_size, written_down, has_room, added, after_call, memory_after, after_calls}
 use Rattle.recorder.specs.declared.refusal.Refusal.TheVariants.{FileFull, UnfitGate}
 use Rattle.schedule.specs.Numbers.{groups}
 use Rattle.schedule.specs.Orders.{order_number}
@@ -49,7 +49,7 @@ module _ {At : Type 0} (door : Table At) where
 
   room_left : (r : Recording At) (h : Handed) → T (is_some (added door r h)) → r.written + 2 ≤ length h.memory
   room_left r h t =
-      let room : T (has_room r.written (length h.memory)) = had_room r.fit (has_room r.written (length h.memory)) (accepted door r.gate h.call) (order_of h.call) t in
+      let room : T (has_room r.written (length h.memory)) = had_room r.fit (has_room r.written (length h.memory)) (accepted door r.gate h.call) (written_as h.call) t in
       grind (arith, nat_tests, room)
 
   call_keeps : (gate : State At) (r : Recording At) (memory : List ℕ) (call : Call) → Kept door gate r memory
@@ -80,5 +80,12 @@ module _ {At : Type 0} (door : Table At) where
 
   -- of a recorder and memory that a call left so
   pub kept_after : (r s : Recording At) (memory left : List ℕ) (call : Call) → s ≡ after_call door r (handed call memory) → left ≡ memory_after door r (handed call memory)
-      → IsKept door r memory → IsKept door s left
+      → HoldsRecord door r memory → HoldsRecord door s left
   kept_after r s memory left call e f (gate, reached, fit, k) = (gate, reached, fit, kept_as gate _ s _ left e f (call_keeps gate r memory call k))
+
+  -- what was written and stands in place is a record, by the law
+  pub in_hand : (r : Recording At) → LawOfRecords door r → LawInHand door r
+  in_hand r law memory (gate, reached, fit, k) =
+      let start = begun door gate in
+      let orders = recorded door start k.past in
+      (orders, subst (λ bytes. IsRecord door r bytes orders) (sym k.bytes) (law gate k.past reached fit k.leads k.in_place))

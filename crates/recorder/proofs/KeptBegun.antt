@@ -10,7 +10,7 @@ use Rattle.recorder.specs.Recorders.{Recording, is_fit, has_room, start_refusal,
 use Rattle.recorder.specs.declared.refusal.Refusal.TheVariants.{FileFull, UnfitGate}
 use Rattle.schedule.specs.Numbers.{groups}
 use Rattle.schedule.specs.Writing.{written_at}
-use Rattle.recorder.specs.Kept.{Kept, IsKept}
+use Rattle.recorder.specs.Kept.{Kept, HoldsRecord}
 use Rattle.recorder.proofs.InHand.{groups_few}
 use Rattle.recorder.proofs.Kept.{kept_as, written_within}
 
@@ -31,7 +31,7 @@ at_start : (bytes memory : List ℕ) → take (length bytes) (written_at 0 bytes
 at_start bytes memory = grind (arith, common_steps)
 
 pub kept_begun : {At : Type 0} (door : Table At) (gate : State At) (arms : ℕ) (r : Recording At) (memory left : List ℕ) → IsReached door gate
-    → unless_refused (start_refusal door gate (length memory)) gate.n ≡ Ok arms → left ≡ memory_started door gate memory → r ≡ over door arms gate → IsKept door r left
+    → unless_refused (start_refusal door gate (length memory)) gate.n ≡ Ok arms → left ≡ memory_started door gate memory → r ≡ over door arms gate → HoldsRecord door r left
 kept_begun door gate arms r memory left reached e f is =
     let s = starts (is_fit door gate) (has_room 0 (length memory)) gate.n arms memory (written_at 0 (groups gate.n) memory) left e f in
     let room : 2 ≤ length memory = (let t = s.is_room in grind (arith, nat_tests, t)) in

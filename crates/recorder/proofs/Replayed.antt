@@ -31,7 +31,7 @@ use Rattle.gate_model.proofs.Twins.{Twins, made_twins, same_but_marks}
 use Rattle.gate_model.proofs.Unmarked.{unmarked_made}
 use Rattle.obeying.specs.Obeying.{obeyed, obeyed_all, refusals}
 use Rattle.recorder.specs.Law.{recorded, written_by, Replays, IsRecord, begun, LawOfRecords}
-use Rattle.recorder.specs.Recorders.{Recording, Handed, order_of, unless_down, turned_down, is_fit, added, after_call, after_calls}
+use Rattle.recorder.specs.Recorders.{Recording, Handed, written_as, unless_down, turned_down, is_fit, added, after_call, after_calls}
 use Rattle.recorder.specs.declared.refusal.Refusal.{Refusal}
 use Rattle.recorder.proofs.FileSoFar.{IsFile, many_more, at_start, lawful, after_call_n}
 use Rattle.recorder.proofs.Follows.{Follows, Obeys, accepted_is, follows_admitted, begin_obeyed, step_obeyed, leave_obeyed}
@@ -61,7 +61,7 @@ module _ {At : Type 0} (door : Table At) (shown : ShowsAccesses door) (some_room
       subst (λ z. Follows door z (obeyed door t o)) (accepted_is door s c e) x.1,
     )
 
-    plays_done : (c : Call) → refusal_of door s c ≡ None → Plays door (done door s c) t (option_to_list (order_of c))
+    plays_done : (c : Call) → refusal_of door s c ≡ None → Plays door (done door s c) t (option_to_list (written_as c))
     plays_done (begin i) e = one (begin i) (Begin i) e (begin_obeyed door shown some_room s t f i e)
     plays_done (step i) e = one (step i) (Step i) e (step_obeyed door shown some_room s t f i e)
     plays_done (admit i) e = (refl, subst (λ z. Follows door z t) (accepted_is door s (admit i) e) (follows_admitted door s t i f))
@@ -73,7 +73,7 @@ module _ {At : Type 0} (door : Table At) (shown : ShowsAccesses door) (some_room
 
     -- what any call of the recorder adds, by why it is turned down or refused
     plays_call : (c : Call) (down : Option Refusal) (why : Option M.Refusal) → refusal_of door s c ≡ why
-        → Plays door (unless_down down (unless why (done door s c) s) s) t (option_to_list (if not (is_some down) && no_refusal why then order_of c else None))
+        → Plays door (unless_down down (unless why (done door s c) s) s) t (option_to_list (if not (is_some down) && no_refusal why then written_as c else None))
     plays_call c (Some x) why e = (refl, f)
     plays_call c None (Some y) e = (refl, f)
     plays_call c None None e = plays_done c e

@@ -13,7 +13,7 @@ use Rattle.gate_model.specs.declared.call.Call.TheVariants.{Leave}
 use Rattle.gate_model.specs.declared.phase.Phase.{Phase}
 use Rattle.gate_model.specs.declared.refusal.Refusal as M
 use Rattle.recorder.specs.Answers.{leave_passed_on, with_spent}
-use Rattle.recorder.specs.Recorders.{Recording, Handed, handed, order_of, has_room, order_size, written_down, turned_down, added, after_call, memory_after}
+use Rattle.recorder.specs.Recorders.{Recording, Handed, handed, written_as, has_room, order_size, written_down, turned_down, added, after_call, memory_after}
 use Rattle.recorder.specs.declared.recorder.HandedBack.{HandedBack}
 use Rattle.recorder.specs.declared.refusal.Refusal.{Refusal}
 use Rattle.recorder.specs.declared.refusal.Refusal.TheVariants.{FileFull, UnfitGate, Gate}
@@ -26,7 +26,7 @@ not_down r call memory told may ok = grind (arith, nat_tests)
 
 -- and neither is one that is not written, where the gate is one that is recorded
 pub goes_by : {At : Type 0} (r : Recording At) (call : Call) (memory : List ℕ) (told : Result (Unit {0}) Refusal)
-    → told ≡ (if r.fit then Ok tt else Err UnfitGate) → told ≡ Ok tt → order_of call ≡ None → turned_down r (handed call memory) ≡ None
+    → told ≡ (if r.fit then Ok tt else Err UnfitGate) → told ≡ Ok tt → written_as call ≡ None → turned_down r (handed call memory) ≡ None
 goes_by r call memory told may ok none = grind (arith, nat_tests)
 
 pub room_for : (fit : Bool) (written size : ℕ) (told : Result (Unit {0}) Refusal)
@@ -43,7 +43,7 @@ module _ {At : Type 0} (door : Table At) where
   memory_went r h file o add e = grind arith
 
   -- which is that of the call, where the gate accepts it
-  pub added_order : (r : Recording At) (h : Handed) → turned_down r h ≡ None → refusal_of door r.gate h.call ≡ None → added door r h ≡ order_of h.call
+  pub added_order : (r : Recording At) (h : Handed) → turned_down r h ≡ None → refusal_of door r.gate h.call ≡ None → added door r h ≡ written_as h.call
   added_order r h down none = grind arith
 
   -- and none where the gate refuses

@@ -3,9 +3,10 @@ use Rattle.std.specs.Prelude.{◌≡◌, ℕ, ◌≤◌, T, List, length, take}
 use Rattle.gate_model.specs.Law.{IsReached}
 use Rattle.gate_model.specs.States.{State}
 use Rattle.gate_model.specs.Table.{Table}
-use Rattle.recorder.specs.Law.{InPlace, begun, written_by}
+use Rattle.recorder.specs.Law.{InPlace, IsRecord, begun, written_by}
 use Rattle.recorder.specs.Recorders.{Recording, Handed, is_fit, after_calls}
 use Rattle.schedule.specs.Numbers.{groups}
+use Rattle.schedule.specs.declared.order_number.Order.{Order}
 
 module _ {At : Type 0} (door : Table At) where
   -- calls, in which the written bytes were left in place, lead from the recorder just begun over this gate to r, and the memory begins with
@@ -18,5 +19,9 @@ module _ {At : Type 0} (door : Table At) where
     pub within : r.written ≤ length memory
 
   -- of some gate that can be recorded
-  abbrev pub IsKept : Recording At → List ℕ → Type 0
-  IsKept r memory = (gate : State At) × IsReached door gate × T (is_fit door gate) × Kept gate r memory
+  abbrev pub HoldsRecord : Recording At → List ℕ → Type 0
+  HoldsRecord r memory = (gate : State At) × IsReached door gate × T (is_fit door gate) × Kept gate r memory
+
+  -- the first bytes of memory that holds what was written, as many as there are, are a record
+  abbrev pub LawInHand : Recording At → Type 0
+  LawInHand r = (memory : List ℕ) → HoldsRecord r memory → (orders : List Order) × IsRecord door r (take r.written memory) orders

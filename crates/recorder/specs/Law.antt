@@ -19,7 +19,7 @@ module _ {At : Type 0} (door : Table At) where
   recorded r [] = []
   recorded r (h ∷ hs) = option_to_list (added door r h) ++ recorded (after_call door r h) hs
 
-  -- the bytes written by now, after a call: where it adds an order, the memory that came with it begins with them; else they are those before it
+  -- the bytes written by now, after a call: where it adds an order, the first ones of its memory after the call; else the same as before
   abbrev pub bytes_after : Recording At → List ℕ → Handed → List ℕ
   bytes_after r bytes h = if is_some (added door r h) then take (after_call door r h).written (memory_after door r h) else bytes
 
@@ -51,8 +51,8 @@ module _ {At : Type 0} (door : Table At) where
   abbrev pub begun : State At → Recording At
   begun s = over door s.n s
 
-  -- the law of a recorder: whichever gate it was handed, if that is fit, and whatever was called since, refused or not and over whatever
-  -- memory, as long as the host leaves the written bytes in place
+  -- the law of a recorder that was begun over a fit gate whose arm count was written: whatever was called since, refused or not and over
+  -- whatever memory, as long as the host leaves the written bytes in place
   abbrev pub LawOfRecords : Recording At → Type 0
   LawOfRecords r = (gate : State At) (past : List Handed) → IsReached door gate → T (is_fit door gate) → after_calls door (begun gate) past ≡ r →
       InPlace (begun gate) (groups gate.n) past →

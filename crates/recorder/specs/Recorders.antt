@@ -32,11 +32,11 @@ abbrev pub handed : Call → List ℕ → Handed
 handed c memory = record { call = c; memory = memory }
 
 -- the order that an accepted call is written as; an admit is not written, and neither is a call that only tells something
-abbrev pub order_of : Call → Option Order
-order_of (begin i) = Some (Begin i)
-order_of (step i) = Some (Step i)
-order_of (leave gate i) = Some (Leave i)
-order_of c = None
+abbrev pub written_as : Call → Option Order
+written_as (begin i) = Some (Begin i)
+written_as (step i) = Some (Step i)
+written_as (leave gate i) = Some (Leave i)
+written_as c = None
 
 -- whether two bytes are free after those written, in memory of so many bytes, and two are left up to the longest file
 abbrev pub has_room : ℕ → ℕ → Bool
@@ -51,7 +51,7 @@ abbrev pub written_down : Option Order → ℕ → List ℕ → List ℕ
 written_down None at memory = memory
 written_down (Some o) at memory = written_at at (groups (order_number o)) memory
 
--- old where the recorder turned a call down, else new
+-- new; or old, where the recorder turned a call down
 abbrev pub unless_down : {X : Type 0} → Option Refusal → X → X → X
 unless_down None new old = new
 unless_down (Some refusal) new old = old
@@ -60,7 +60,7 @@ unless_down (Some refusal) new old = old
 abbrev pub turned_down : {At : Type 0} → Recording At → Handed → Option Refusal
 turned_down r h =
     if r.fit
-    then (if is_some (order_of h.call) && not (has_room r.written (length h.memory)) then Some FileFull else None)
+    then (if is_some (written_as h.call) && not (has_room r.written (length h.memory)) then Some FileFull else None)
     else Some UnfitGate
 
 module _ {At : Type 0} (door : Table At) where
@@ -86,7 +86,7 @@ module _ {At : Type 0} (door : Table At) where
 
   -- the order that a call adds to the file, if it adds one
   abbrev pub added : Recording At → Handed → Option Order
-  added r h = if goes_through r h then order_of h.call else None
+  added r h = if goes_through r h then written_as h.call else None
 
   -- the recorder after a call, and the memory that came with it
   abbrev pub after_call : Recording At → Handed → Recording At

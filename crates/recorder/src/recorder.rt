@@ -1,4 +1,5 @@
 ghost use Rattle.std.specs.Prelude.{◌≡◌, ◌≤◌};
+ghost use Rattle.recorder.specs.Kept.{LawInHand};
 ghost use Rattle.recorder.specs.Law.{LawOfRecords};
 ghost use Rattle.recorder.specs.Recorders.{IsRecorder};
 ghost use Rattle.schedule.specs.FileLimits.{file_limit};
@@ -29,7 +30,7 @@ impl From<gate::HandedBack> for HandedBack {
     }
 }
 
-/// Makes the calls of a gate that it owns, and writes down those that alter where an arm stands.
+/// Makes the calls of a gate that it owns, and writes down each accepted begin, step and leave.
 #[derive(Drop)]
 pub struct Recorder<B: Bank, D: Door> {
     pub(crate) gate: Gate<B, D>,
@@ -49,8 +50,8 @@ impl<B: Bank, D: Door> Model for Recorder<B, D> {
 }
 
 impl<B: Bank, D: Door> Recorder<B, D> {
-    /// How many bytes of the file are written, 60,000 at most: the file is these first bytes of the memory. The contract also says that
-    /// a gate, a start and calls lead to the recorder.
+    /// How many bytes of the file are written, 60,000 at most: the file is these first bytes of the memory, as long as the host left
+    /// them in place. The contract also says that a gate, a start and calls lead to the recorder.
     pub fn written(&self) -> usize
         ensures is { result ≡ self.now.written }
         ensures short { result ≤ file_limit }
@@ -63,12 +64,13 @@ impl<B: Bank, D: Door> Recorder<B, D> {
     pub fn gate(&self) -> &Gate<B, D>
         ensures gate { result.now ≡ self.now.gate }
         ensures law { LawOfRecords D.table self.now }
+        ensures in_hand { LawInHand D.table self.now }
     {
         &self.gate
     }
 
-    /// Ends the recorder and hands its gate back as it stands. A pass that is out is spent by the gate's own `leave` from then on.
-    /// It is never refused.
+    /// Ends the recorder, which is never refused, and hands its gate back as it stands. A pass that is out is spent by the gate's own
+    /// `leave` from then on.
     pub fn stop(self) -> Gate<B, D>
         ensures gate { result ≡ self.gate }
         ensures law { LawOfRecords D.table self }

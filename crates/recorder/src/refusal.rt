@@ -8,7 +8,8 @@ use std::fmt;
 /// Why a recorder refuses a call. A refused call changes neither the gate nor the memory.
 #[derive(Clone, Copy, Debug, PartialEq, Eq)]
 pub enum Refusal {
-    /// Begin, step, leave and start: fewer than two bytes are free in the memory, or fewer than two are left up to 60,000.
+    /// Begin, step, leave and start: fewer than two bytes are free in the memory after those written, or fewer than two are left up to
+    /// 60,000.
     FileFull,
     /// Start: the gate has 0 arms, or a visit of one of them was begun. Begin, step, admit and leave: the recorder was handed such a
     /// gate, or one with another arm count than its start wrote.

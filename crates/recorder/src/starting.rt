@@ -59,7 +59,7 @@ fn is_recorded<B: Bank, D: Door>(gate: &Gate<B, D>, arms: usize) -> bool
 }
 
 /// Starts the file of a gate at the start of the memory: writes the gate's arm count, which takes one byte. The gate is only looked at,
-/// and is handed over after that, by `over` of what this answers. Refuses with 19, then 18, and then leaves the memory as it was.
+/// and is handed over after that, by `over` of what this answers. Refuses with 19, then 18; a refused start leaves the memory as it was.
 pub fn start<B: Bank, D: Door>(gate: &Gate<B, D>, file: &mut [u8]) -> Result<Started, Refusal>
     ensures answer { result ≡ unless_refused (start_refusal D.table gate.now (length file.old)) gate.now.n }
     ensures memory { file.new ≡ memory_started D.table gate.now file.old }
