@@ -92,7 +92,7 @@ FILES = [
 
 
 # How many edge cases the crate proves.
-EDGE_CASES = 78
+EDGE_CASES = 128
 
 # The file that the program plays through the four-valued door.
 TWICE_PAST = past_a_waiting_arm(FOUR_VALUED)

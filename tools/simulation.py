@@ -111,20 +111,21 @@ DOORS = {door.name: door for door in (THREE_BITS, FOUR_VALUED)}
 class Gate:
     """A gate of n arms through a door. A call that is refused answers None and alters nothing.
 
-    `reads` and `writes` count the accesses of its registers since its making. A pass is named by its arm.
+    `reads` and `writes` count the accesses of its registers since its making, `turns` how often the group got another value. A pass
+    is named by its arm.
     """
 
-    def __init__(self, door, n, registers=None):
+    def __init__(self, door, n, registers=None, number=0):
         """Makes the gate that has the largest arm count up to n for which the registers are there; all are, where none are given."""
         tried = range(min(n, ARM_LIMIT), 0, -1)
-        self.door = door
+        self.door, self.number, self.turns = door, number, 0
         self.n = next((k for k in tried if registers is None or door.room(k) <= registers), 0)
         self.reads = len(tried) - max(self.n - 1, 0)
         self.writes = door.room(self.n) if self.n else 0
         self.registers = [0, *door.first * self.n]
         each = self.n + 1  # arm i stands at i
         self.at, self.index, self.side, self.visits = [IDLE] * each, [0] * each, [None] * each, [0] * each
-        self.row = [[0] * each for _ in range(each)]
+        self.row, self.notes = [[0] * each for _ in range(each)], [[False] * each for _ in range(each)]
         self.out = set()
 
     def is_arm(self, arm):
@@ -157,6 +158,7 @@ class Gate:
         place, value = self.place_of(row, arm), self.value_of(row, arm)
         if row.access == WRITE:
             self.writes += 1
+            self.turns += row.whose == GROUP and self.registers[place] != value
             self.registers[place] = value
             self.go(arm, row.then)
         else:
@@ -179,13 +181,14 @@ class Gate:
         return 1 - self.side[arm] if row.value == OTHER_SIDE else row.value
 
     def go(self, arm, then):
-        """Takes an arm to where its row leads. A row of counts starts at the end of the doorway."""
+        """Takes an arm to where its row leads. A row of counts starts at the end of the doorway, and the arms that are idle are noted."""
         if then == NEXT:
             then = "W1" if self.index[arm] < self.n else INSIDE
             self.index[arm] += 1
         elif then == "W1":
             self.index[arm] = 1
             self.row[arm] = [0] * (self.n + 1)
+            self.notes[arm] = [at == IDLE for at in self.at]
         self.at[arm] = then
         if then == INSIDE:
             self.index[arm] = 0
@@ -222,7 +225,7 @@ class Gate:
         return (self.at[arm][0], self.side[arm], self.index[arm], self.visits[arm], arm in self.out) if self.is_arm(arm) else None
 
     def tally(self, arm, other):
-        return self.row[arm][other] if self.is_arm(arm) and self.is_arm(other) else None
+        return (self.row[arm][other], self.notes[arm][other]) if self.is_arm(arm) and self.is_arm(other) else None
 
     def most_passed(self, arm):
         return max(self.row[arm]) if self.is_arm(arm) else None
@@ -237,15 +240,25 @@ class Gate:
         self.reads += 1 if self.n else 0
         return self.registers[0]
 
+    def record(self, arm):
+        """All that is kept of an arm; a position is the place and the index."""
+        position = self.at[arm], self.index[arm]
+        return position, self.side[arm], self.visits[arm], arm in self.out, self.row[arm][1:], self.notes[arm][1:]
+
     def same(self, other):
-        """Compares the registers up to the first that differs, and then the phases."""
-        if self.n != other.n or self.n == 0:
-            return self.n == other.n
-        equal = self.registers == other.registers
-        compared = len(self.registers) if equal else 1 + next(k for k, v in enumerate(self.registers) if v != other.registers[k])
+        """Compares number, arm count and turns, then the records of the arms, and then the registers up to the first that differs."""
+        arms = range(1, self.n + 1)
+        if (self.number, self.n, self.turns) != (other.number, other.n, other.turns):
+            return False
+        if any(self.record(arm) != other.record(arm) for arm in arms):
+            return False
+        if self.n == 0:
+            return True
+        pairs = list(zip(self.registers, other.registers))
+        compared = next((k for k, (mine, its) in enumerate(pairs, 1) if mine != its), len(pairs))
         self.reads += compared
         other.reads += compared
-        return equal and [at[0] for at in self.at] == [at[0] for at in other.at]
+        return self.registers == other.registers
 
 
 def main():

@@ -185,7 +185,7 @@ fn turn_after_refusals<D: Door>(
     turn(gate, arm);
 }
 
-// A run of so many turns, each of which begins with calls that are refused. The gate after it is the same as after `lively`.
+// A run of so many turns, each of which begins with calls that are refused. The gate after it is as after `lively`.
 pub(crate) fn refused<D: Door>(
     gate: &mut Watched<D>,
     other: &mut Gate<BitBank, ThreeBits>,

@@ -236,7 +236,7 @@ impl<D: Door> Watched<D> {
         bit
     }
 
-    // Compares the gate with itself, register by register.
+    // Compares the gate with itself: nothing differs, so that each register that the arms take is read twice.
     pub fn same(&mut self) -> bool
         ensures { self.new.gate ≡ self.old.gate }
     {

@@ -1,4 +1,5 @@
 ghost use Rattle.std.specs.Prelude.{◌≡◌};
+ghost use Rattle.std.proofs.Common.{rules};
 ghost use Rattle.four_valued.specs.Positions.{read_by, onward, four_valued};
 ghost use Rattle.simulation.proofs.Accesses.{accesses_by};
 ghost use Rattle.simulation.proofs.Doorways.{reads_by, indexes_by};
@@ -149,4 +150,6 @@ impl Door for FourValued {
     ghost indexes = { indexes_by plan };
 
     ghost some_room = { plan.some_room };
+
+    ghost told_apart = { λ p q. Prim.search rules };
 }

@@ -1,4 +1,4 @@
-ghost use Rattle.std.specs.Prelude.{◌≡◌, ℕ, ◌+◌, ◌*◌, ◌≤◌};
+ghost use Rattle.std.specs.Prelude.{◌≡◌, ℕ, ◌+◌, ◌*◌, ◌≤◌, ◌↔◌, IsTrue};
 ghost use Rattle.gate_model.specs.Accesses.{ShowsAccesses};
 ghost use Rattle.gate_model.specs.Doorways.{ShowsReads};
 ghost use Rattle.gate_model.specs.Indexes.{ShowsIndexes};
@@ -13,7 +13,7 @@ use gate_model::access::Access;
 ///
 /// Whoever writes a door gives its table, the code of the table, and shows the laws at the end.
 /// How often an arm is passed follows from `phased` and `rules`; right of way and going inside a door shows by an argument of its own.
-pub trait Door: Copy {
+pub trait Door: Copy + Eq {
     // The table of the door; the code below is held to it.
     ghost table: { Table Self };
 
@@ -93,4 +93,7 @@ pub trait Door: Copy {
 
     // The group is one of the registers that the arms take.
     ghost some_room: { (n : ℕ) → 1 ≤ table.room n };
+
+    // `==` tells any two positions apart.
+    ghost told_apart: { (p q : Self) → IsTrue (Self.PartialEq.eq p q) ↔ p ≡ q };
 }

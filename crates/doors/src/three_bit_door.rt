@@ -1,4 +1,5 @@
 ghost use Rattle.std.specs.Prelude.{◌≡◌};
+ghost use Rattle.std.proofs.Common.{rules};
 ghost use Rattle.three_bits.specs.Positions.{choosing_of, mygroup_of, flag_of, read_by, onward, three_bits};
 ghost use Rattle.simulation.proofs.Accesses.{accesses_by};
 ghost use Rattle.simulation.proofs.Doorways.{reads_by, indexes_by};
@@ -160,4 +161,6 @@ impl Door for ThreeBits {
     ghost indexes = { indexes_by plan };
 
     ghost some_room = { plan.some_room };
+
+    ghost told_apart = { λ p q. Prim.search rules };
 }

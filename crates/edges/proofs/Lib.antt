@@ -1,2 +1,3 @@
+mod SameTest
 mod Table
 mod Examples

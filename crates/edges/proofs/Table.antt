@@ -3,7 +3,9 @@ use Rattle.std.proofs.Common.{◌≡◌, ℕ, zero, suc, ◌≤◌, Bool, true, 
 use Rattle.std.specs.Fmt.{digits}
 use Rattle.std.specs.Str.{bytes_eq}
 use Rattle.std.proofs.lemmas.Slice.Eq.{bytes_eq-Decides}
+use Rattle.std.specs.Bool.{Decides}
 use Rattle.std.proofs.lemmas.Bool.{and_parts, not-true, eqb-true, cond-true, le-leb}
+use Rattle.std.proofs.lemmas.Bool.Decides.{Decides-not}
 use Rattle.schedule.specs.Faults.{fault_number, fault_place, fault_order, fault_layer}
 use Rattle.schedule.specs.FileLimits.{file_limit}
 use Rattle.schedule.specs.Numbers.{groups, number_from}
@@ -23,11 +25,16 @@ use Rattle.play.specs.Playing.{playable, play_answer, play_memory, play_text}
 use Rattle.play.specs.Reports.{fault_text, layer_word}
 use Rattle.play.specs.Text.{overwritten}
 use Rattle.three_bits.specs.Positions.{three_bits}
+use Rattle.three_bits.specs.contracts.position.ThreeBitsPartialEq.TheImpl.{ghosts as three_bits_eq}
 use Rattle.four_valued.specs.Positions.{four_valued}
-use Rattle.edges.specs.Cases.{Case, writes, reads, opens, fails, tells, plays, gives, bars, accepts, refuses, frees, counts, notes, turned, Plays, Holds, EachHolds}
+use Rattle.four_valued.specs.contracts.position.FourValuedPartialEq.TheImpl.{ghosts as four_valued_eq}
+use Rattle.doors.specs.contracts.three_bit_door.ThreeBitsDoor.TheImpl.Laws.{told_apart-law as three_bits_told}
+use Rattle.doors.specs.contracts.four_valued_door.FourValuedDoor.TheImpl.Laws.{told_apart-law as four_valued_told}
+use Rattle.edges.specs.Cases.{Case, writes, reads, opens, fails, tells, plays, gives, bars, accepts, refuses, frees, counts, notes, turned, matches, differs, Plays, Holds, EachHolds}
 use Rattle.edges.specs.ThreeBitCases as T
 use Rattle.edges.specs.FourValuedCases as V
 use Rattle.edges.specs.EveryCase.{EveryCase}
+use Rattle.edges.proofs.SameTest.{same_test, same_test-Decides}
 
 -- the answer is of one kind, and what it holds passes a test
 abbrev ok_test : {X E : Type 0} → (X → Bool) → Result X E → Bool
@@ -129,8 +136,8 @@ note_test idle c = same_bool idle c.idle
 played : (file memory : List ℕ) → leb (length file) file_limit ≡ true → report_room ≤ length memory → playable file (length memory) ≡ says file
 played file memory short room = cond-true _ _ _ short ∙ cond-true _ _ _ (le-leb report_room (length memory) room)
 
--- of a door and a bank
-module _ {At : Type 0} (door : Table At) (highest : ℕ) (registers : List ℕ) where
+-- of a door, a test that tells its positions apart, and a bank
+module _ {At : Type 0} (door : Table At) (same_position : At → At → Bool) (told_apart : (p q : At) → Decides (same_position p q) (p ≡ q)) (highest : ℕ) (registers : List ℕ) where
   -- whether the report of a play is the text
   abbrev report_test : Lent → List ℕ → Contents → Bool
   report_test lent text c = bytes_eq (play_text door lent highest registers c) text
@@ -151,6 +158,8 @@ module _ {At : Type 0} (door : Table At) (highest : ℕ) (registers : List ℕ) 
   test lent (counts s w b times) = ok_test (count_test times) (tally_answer door s w b)
   test lent (notes s w b idle) = ok_test (note_test idle) (tally_answer door s w b)
   test lent (turned s times) = eqb s.turns times
+  test lent (matches s t) = same_test door same_position s t
+  test lent (differs s t) = not (same_test door same_position s t)
 
   -- such a play leaves this text as its report
   same_report : (lent : Lent) (file text memory : List ℕ) (r : Result Contents PlayFault)
@@ -187,6 +196,8 @@ module _ {At : Type 0} (door : Table At) (highest : ℕ) (registers : List ℕ) 
   sound (counts s w b times) t = is_ok (count_test times) (λ c. eqb-true c.count times) (tally_answer door s w b) (t (unlogged 0))
   sound (notes s w b idle) t = is_ok (note_test idle) (λ c. is_bool idle c.idle) (tally_answer door s w b) (t (unlogged 0))
   sound (turned s times) t = eqb-true s.turns times (t (unlogged 0))
+  sound (matches s other) t = (same_test-Decides door same_position told_apart s other).0 (t (unlogged 0))
+  sound (differs s other) t = (Decides-not (same_test door same_position s other) (same_test-Decides door same_position told_apart s other)).0 (t (unlogged 0))
 
   -- every case of a list passes, so each holds
   abbrev all_pass : Lent → List (Case At) → Bool
@@ -199,16 +210,16 @@ module _ {At : Type 0} (door : Table At) (highest : ℕ) (registers : List ℕ) 
   each (c ∷ cs) t (suc k) other h = each cs (λ lent. (and_parts (test lent c) (all_pass lent cs) (t lent)).1) k other (le_of_suc-le-suc h)
 
 -- both tables pass: computed
-three_bit_passed : (lent : Lent) → all_pass three_bits T.highest T.registers lent T.table ≡ true
+three_bit_passed : (lent : Lent) → all_pass three_bits three_bits_eq.eq three_bits_told T.highest T.registers lent T.table ≡ true
 unfolding orders_from largest digits
 three_bit_passed lent = refl
 
-four_valued_passed : (lent : Lent) → all_pass four_valued V.highest V.registers lent V.table ≡ true
+four_valued_passed : (lent : Lent) → all_pass four_valued four_valued_eq.eq four_valued_told V.highest V.registers lent V.table ≡ true
 unfolding orders_from largest digits
 four_valued_passed lent = refl
 
 pub every_case : EveryCase
 every_case = record {
-  three_bit = each three_bits T.highest T.registers T.table three_bit_passed;
-  four_valued = each four_valued V.highest V.registers V.table four_valued_passed;
+  three_bit = each three_bits three_bits_eq.eq three_bits_told T.highest T.registers T.table three_bit_passed;
+  four_valued = each four_valued four_valued_eq.eq four_valued_told V.highest V.registers V.table four_valued_passed;
 }

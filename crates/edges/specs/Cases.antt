@@ -12,6 +12,7 @@ use Rattle.gate_model.specs.Calls.{refusal_of, way_answer, with_visit}
 use Rattle.gate.specs.Answers.{tally_answer}
 use Rattle.gate_model.specs.Making.{arms_for}
 use Rattle.gate_model.specs.Refusals.{refusal_number}
+use Rattle.gate_model.specs.SameGates.{SameGates}
 use Rattle.gate_model.specs.States.{State, made, with_arm}
 use Rattle.gate_model.specs.declared.call.Call.{Call}
 use Rattle.gate.specs.declared.gate.Tally.{Tally}
@@ -49,6 +50,9 @@ pub data Case (At : Type 0) : Type 0 where
   notes : State At → ℕ → ℕ → Bool → Case At
   -- a gate: how often its bit turned
   turned : State At → ℕ → Case At
+  -- two gates of the door that are the same, and two that are not
+  matches : State At → State At → Case At
+  differs : State At → State At → Case At
 
 -- the file has a fault of which P holds
 abbrev pub Faulty : List ℕ → (PlayFault → Type 0) → Type 0
@@ -56,9 +60,13 @@ Faulty file P = (fault : PlayFault) × (says file ≡ Err fault) × P fault
 
 -- of a door and a bank: the bank's highest value, and its registers before a gate is made over it
 module _ {At : Type 0} (door : Table At) (highest : ℕ) (registers : List ℕ) where
-  -- a gate over the bank after the orders of a file
+  -- a gate with a number over the bank after the orders of a file
+  abbrev pub numbered_after : ℕ → ℕ → List ℕ → State At
+  numbered_after number arms file = obeyed_by door (says file) (made door (record { memory = unlogged 0; high = highest; number = number; wanted = arms; regs = registers }))
+
+  -- that of gate number 0
   abbrev pub gate_after : ℕ → List ℕ → State At
-  gate_after arms file = obeyed_by door (says file) (made door (record { memory = unlogged 0; high = highest; number = 0; wanted = arms; regs = registers }))
+  gate_after = numbered_after 0
 
   -- a gate of one arm, which has begun so many visits and is idle
   abbrev pub gate_visited : ℕ → State At
@@ -86,6 +94,8 @@ module _ {At : Type 0} (door : Table At) (highest : ℕ) (registers : List ℕ) 
   Holds (counts s w b times) = (t : Tally) × (tally_answer door s w b ≡ Ok t) × (t.count ≡ times)
   Holds (notes s w b idle) = (t : Tally) × (tally_answer door s w b ≡ Ok t) × (t.idle ≡ idle)
   Holds (turned s times) = s.turns ≡ times
+  Holds (matches s t) = SameGates door s t
+  Holds (differs s t) = ¬ (SameGates door s t)
 
   -- each case of a table holds
   abbrev pub EachHolds : List (Case At) → Type 0

@@ -16,7 +16,7 @@ by_kind four_valued x y = y
 -- of a door of some kind
 module _ (kind : Kind) where
   -- how many steps a doorway takes
-  abbrev doorway : ℕ
+  abbrev pub doorway : ℕ
   doorway = by_kind kind 5 3
 
   -- how many steps arm 2 of three makes in W, in its second visit, until it is inside
@@ -33,7 +33,7 @@ module _ (kind : Kind) where
   both_wait = 0x02 ∷ 0x04 ∷ replicate doorway 0x05 ++ 0x08 ∷ replicate doorway 0x09
 
   -- then 1 goes inside, and then 2
-  abbrev both_inside : List ℕ
+  abbrev pub both_inside : List ℕ
   both_inside = both_wait ++ replicate 6 0x05 ++ replicate 6 0x09
 
   -- or 1 goes inside and is let go, and then 2 goes inside
@@ -41,7 +41,7 @@ module _ (kind : Kind) where
   past_leaving = both_wait ++ replicate 6 0x05 ++ 0x06 ∷ replicate 6 0x09
 
   -- after both went inside, both leave
-  abbrev both_gone : List ℕ
+  abbrev pub both_gone : List ℕ
   both_gone = both_inside ++ 0x06 ∷ 0x05 ∷ 0x05 ∷ 0x0A ∷ 0x09 ∷ 0x09 ∷ []
 
   -- then 2 begins its next visit
@@ -69,7 +69,7 @@ module _ (kind : Kind) where
   two_gone = two_inside ++ 0x0A ∷ 0x09 ∷ 0x09 ∷ []
 
   -- then 2 begins and goes inside again
-  abbrev two_again : List ℕ
+  abbrev pub two_again : List ℕ
   two_again = two_gone ++ 0x08 ∷ replicate (doorway + waiting) 0x09
 
   -- then 2, with side 1, makes its first exit step: the bit is 0 again

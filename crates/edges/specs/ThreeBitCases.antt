@@ -1,17 +1,25 @@
 -- The edge cases of numbers and files, and of the three-bit door over a bit bank just made.
-use Rattle.std.specs.Prelude.{ℕ, List, [], ◌∷◌, replicate}
+use Rattle.std.specs.Prelude.{ℕ, List, [], ◌∷◌, ◌++◌, replicate}
 use Rattle.bank.specs.Bits.{bit_registers}
 use Rattle.machine.specs.Kinds as K
 use Rattle.three_bits.specs.Positions.{three_bits}
 use Rattle.three_bits.specs.declared.position.ThreeBits.{ThreeBits}
 use Rattle.edges.specs.Cases.{Case, writes, reads, opens, fails, tells, gives}
 use Rattle.edges.specs.DoorCases.{cases}
+use Rattle.edges.specs.SameCases.{same_cases, register_cases}
 
 abbrev pub highest : ℕ
 highest = 1
 
 abbrev pub registers : List ℕ
 registers = replicate bit_registers 0
+
+-- another bank: bytes, and more of them than any arms take
+abbrev other_highest : ℕ
+other_highest = 255
+
+abbrev other_registers : List ℕ
+other_registers = replicate 310 9
 
 abbrev pub table : List (Case ThreeBits)
 table =
@@ -40,3 +48,5 @@ table =
     ∷ gives highest 96 40 31
     ∷ gives highest 3 40 0
     ∷ cases K.three_bits three_bits highest registers
+    ++ same_cases K.three_bits three_bits highest registers other_highest other_registers
+    ++ register_cases K.three_bits three_bits highest registers other_highest other_registers

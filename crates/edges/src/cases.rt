@@ -14,5 +14,5 @@ pub fn edge_cases() -> usize
     ensures each { EveryCase }
 {
     each_holds();
-    78
+    128
 }

@@ -21,7 +21,7 @@ mod way;
 mod rows;
 // A gate that carries out a list of calls.
 mod carrying;
-// Whether two gates are the same to a host.
+// Whether two gates are the same; two that are stay the same.
 mod comparing;
 
 pub use carrying::carry_out;

@@ -1,13 +1,21 @@
-ghost use Rattle.std.specs.Prelude.{◌≡◌, ◌<◌, ◌≤◌, map, length};
+ghost use Rattle.std.specs.Prelude.{◌≡◌, ◌<◌, ◌≤◌, map, length, slice_index_or};
+ghost use Rattle.gate_model.specs.Arms.{no_arm};
 ghost use Rattle.gate_model.specs.Limits.{arm_limit};
 ghost use Rattle.gate.specs.Answers.{largest_count};
 ghost use Rattle.gate_model.specs.Tallies.{counted, is_idle, row_started, tallied};
 ghost use Rattle.gate.specs.Gates.{RestIdle};
 
-use crate::comparing::phase_at;
 use doors::Door;
 use gate_model::Phase;
 use gate_model::arm::{ARM_LIMIT, Arm};
+
+// The phase of the record at place k, from 0: that of arm k + 1.
+pub(crate) fn phase_at<D: Door>(arms: &[Arm<D>; ARM_LIMIT], k: usize) -> Phase
+    requires { k < arm_limit }
+    ensures { result ≡ D.table.phase (slice_index_or arms.now k (no_arm D.table)).position }
+{
+    arms[k].position.phase()
+}
 
 // The arm at place b went inside: this arm adds 1 for it, if it waits.
 fn count<D: Door>(arm: &mut Arm<D>, b: usize)

@@ -5,9 +5,8 @@ ghost use Rattle.gate_model.specs.States.{bit_of};
 ghost use Rattle.gate_model.specs.Turns.{TurnsLaw};
 ghost use Rattle.gate.specs.Gates.{IsGate};
 
-use crate::comparing::phase_at;
 use crate::gate::{Gate, Tally, View};
-use crate::rows::largest;
+use crate::rows::{largest, phase_at};
 use bank::Bank;
 use doors::Door;
 use gate_model::access::{GROUP, value_at};

@@ -30,6 +30,9 @@ pub mod Indexes
 -- records as far as the arms go; gates over unlike banks that go the same way
 pub mod Seen
 pub mod Twins
+-- rows and notes have a place for each arm; gates that are the same go the same way
+pub mod Widths
+pub mod SameGates
 -- records with no pass out; a pass is out only of an arm that is inside
 pub mod Unmarked
 pub mod PassesInside

@@ -42,11 +42,15 @@ module _ {At : Type 0} (door : Table At) (shown : ShowsAccesses door) where
       let yes : T (accepted door s (step i)) = subst (λ x. T (no_refusal x)) (sym e) tt in
       at_origin door (λ t. (i : ℕ) → T (accepted door t (step i)) → InRoom door t.n (access_at door t i)) shown s p i yes
 
-  pub from_origin : (s : State At) (i : ℕ) → Origin door s → refusal_of door s (step i) ≡ None → T (can_make s (access_at door s i))
+  from_origin : (s : State At) (i : ℕ) → Origin door s → refusal_of door s (step i) ≡ None → T (can_make s (access_at door s i))
   from_origin s i p e =
       let r = known_arm s i (step_refusal (phase_at door s i)) e in
       let room = fits_bank door s p (let x = r.0 in let y = r.1 in omega arith) in
       in_room door s (access_at door s i) room.0 room.1 (accesses_one s i p e)
 
+  -- the same of a gate that a making and calls lead to
+  pub makes_reached : (s : State At) (i : ℕ) → IsReached door s → refusal_of door s (step i) ≡ None → T (can_make s (access_at door s i))
+  makes_reached s i reached e = true_at door (can_make s (access_at door s i)) (λ p. from_origin s i p e) reached
+
   pub makeable : (s : State At) (i : ℕ) → IsReached door s → refusal_of door s (step i) ≡ None → IsTrue (can_make s (access_at door s i))
-  makeable s i reached e = is_true (can_make s (access_at door s i)) (true_at door (can_make s (access_at door s i)) (λ p. from_origin s i p e) reached)
+  makeable s i reached e = is_true (can_make s (access_at door s i)) (makes_reached s i reached e)

@@ -10,7 +10,7 @@ use Rattle.gate_model.specs.Table.{Table}
 use Rattle.gate_model.specs.Accesses.{can_make, InRoom, ShowsAccesses}
 use Rattle.gate_model.specs.Arms.{no_arm, side_of}
 use Rattle.gate_model.specs.Calls.{for_arm, begin_refusal, step_refusal, admit_refusal, way_refusal, knows, refusal_of, access_at, done, after, unless, with_visit}
-use Rattle.gate_model.specs.Law.{Origin}
+use Rattle.gate_model.specs.Law.{IsReached}
 use Rattle.gate_model.specs.Making.{Making, arms_of, cleared, made_regs}
 use Rattle.gate_model.specs.Registers.{group, value_read, regs_after, turns_bit}
 use Rattle.gate_model.specs.SameButMarks.{SameProgress, SameButMarks}
@@ -21,9 +21,10 @@ use Rattle.gate_model.specs.declared.call.Call.{Call}
 use Rattle.gate_model.specs.declared.call.Call.TheVariants.{Begin as begin, Step as step, Admit as admit, Confirm as confirm, Leave as leave, Look as look, Tally as tally, Way as way}
 use Rattle.gate_model.specs.declared.refusal.Refusal.{Refusal}
 use Rattle.gate_model.proofs.Accepted.{known_arm, arm_in, arm_is, leave_none}
+use Rattle.gate_model.proofs.Always.{same_at}
 use Rattle.gate_model.proofs.Bools.{and_T}
-use Rattle.gate_model.proofs.Makeable.{accesses_one, from_origin}
-use Rattle.gate_model.proofs.Origins.{origin_made, origin_after}
+use Rattle.gate_model.proofs.Makeable.{accesses_one, makes_reached}
+use Rattle.gate_model.proofs.Origins.{reached_made, reached_after}
 use Rattle.gate_model.proofs.Seen.{trimmed, seen, seen_at, seen_set, step_seen, seen_step}
 use Rattle.gate_model.proofs.Spared.{arms_having_read}
 
@@ -46,18 +47,19 @@ asks_mark (leave gate i) = true
 asks_mark c = false
 
 module _ {At : Type 0} (door : Table At) where
-  pub record Same (w : Bool) (s t : State At) : Type 0 where
+  -- two gates stand alike: as far as the arms go their records, registers and turns are equal, and where w is true numbers and marks too
+  pub record StandAlike (w : Bool) (s t : State At) : Type 0 where
     pub number : T w → t.number ≡ s.number
     pub n : t.n ≡ s.n
     pub arms : seen door w s.n t.arms ≡ seen door w s.n s.arms
     pub registers : 1 ≤ s.n → SameUpTo (door.room s.n) s.regs t.regs
     pub turns : t.turns ≡ s.turns
 
-  -- the same, where a making and calls lead to each
+  -- they stand alike, and a making and calls lead to each
   pub record Twins (w : Bool) (s t : State At) : Type 0 where
-    pub same : Same w s t
-    pub origin : Origin door s
-    pub other : Origin door t
+    pub same : StandAlike w s t
+    pub reached : IsReached door s
+    pub other : IsReached door t
 
   -- of two gates just made
   cleared_at : (k q : ℕ) (regs : List ℕ) → q < k → get_or (cleared door k regs) q 0 ≡ get_or (map door.first (range_with_len 0 k)) q 0
@@ -77,12 +79,12 @@ module _ {At : Type 0} (door : Table At) where
           ∙ (made_at (arms_of door making) q other.regs some l ∙ sym (made_at (arms_of door making) q making.regs some l));
       turns = refl;
     };
-    origin = origin_made door making _ refl;
-    other = origin_made door other _ refl;
+    reached = reached_made door making _ refl;
+    other = reached_made door other _ refl;
   }
 
   -- an arm of both
-  module _ (w : Bool) (s t : State At) (h : Same w s t) (i : ℕ) where
+  module _ (w : Bool) (s t : State At) (h : StandAlike w s t) (i : ℕ) where
     in_both : is_arm t i ≡ is_arm s i
     in_both = let n = h.n in grind arith
 
@@ -92,20 +94,20 @@ module _ {At : Type 0} (door : Table At) where
         let l : i - 1 < s.n = (let lo = r.0 in let hi = r.1 in omega arith) in
         sym (seen_at door w s.n t.arms (i - 1) l) ∙ ap (λ arms. get_or arms (i - 1) (no_arm door)) h.arms ∙ seen_at door w s.n s.arms (i - 1) l
 
-    phase_same : T (is_arm s i) → phase_at door t i ≡ phase_at door s i
+    pub phase_same : T (is_arm s i) → phase_at door t i ≡ phase_at door s i
     phase_same known = ap (λ (a : Arm At). door.phase a.position) (arm_same known)
 
-    mark_same : T w → T (is_arm s i) → (arm_at door t i).out ≡ (arm_at door s i).out
+    pub mark_same : T w → T (is_arm s i) → (arm_at door t i).out ≡ (arm_at door s i).out
     mark_same marked known = let e = ap (λ (a : Arm At). a.out) (arm_same known) in grind arith
 
-    known_same : T w → (gate : ℕ) → knows door t gate i ≡ knows door s gate i
+    pub known_same : T w → (gate : ℕ) → knows door t gate i ≡ knows door s gate i
     known_same marked gate = let e = mark_same marked in let n = h.number marked in let b = in_both in grind arith
 
     by_arm : (x y : Option Refusal) → (T (is_arm s i) → x ≡ y) → for_arm t i x ≡ for_arm s i y
     by_arm x y e = let b = in_both in grind arith
 
   -- the same calls are refused, for the same reasons
-  pub same_refusal : (w : Bool) (s t : State At) (c : Call) → Same w s t → T (w || not (asks_mark c)) → refusal_of door t c ≡ refusal_of door s c
+  pub same_refusal : (w : Bool) (s t : State At) (c : Call) → StandAlike w s t → T (w || not (asks_mark c)) → refusal_of door t c ≡ refusal_of door s c
   same_refusal w s t (begin i) h m =
       by_arm w s t h i _ _ (λ k. ap₂ begin_refusal (phase_same w s t h i k) (ap (λ (a : Arm At). a.visits) (arm_same w s t h i k)))
   same_refusal w s t (step i) h m = by_arm w s t h i _ _ (λ k. ap step_refusal (phase_same w s t h i k))
@@ -117,8 +119,8 @@ module _ {At : Type 0} (door : Table At) where
   same_refusal w s t (way i) h m = by_arm w s t h i _ _ (λ k. ap way_refusal (phase_same w s t h i k))
 
   -- a record that is moved without an access
-  pub moved_same : (w : Bool) (f g : Arm At → Arm At) (s t : State At) (i : ℕ) → ((a : Arm At) → trimmed w s.n (f a) ≡ g (trimmed w s.n a)) → i - 1 < s.n → Same w s t
-      → Same w (with_arm i (f (arm_at door s i)) s) (with_arm i (f (arm_at door t i)) t)
+  moved_same : (w : Bool) (f g : Arm At → Arm At) (s t : State At) (i : ℕ) → ((a : Arm At) → trimmed w s.n (f a) ≡ g (trimmed w s.n a)) → i - 1 < s.n → StandAlike w s t
+      → StandAlike w (with_arm i (f (arm_at door s i)) s) (with_arm i (f (arm_at door t i)) t)
   moved_same w f g s t i trims l h =
       let move : (arms : List (Arm At)) → seen door w s.n (set arms (i - 1) (f (get_or arms (i - 1) (no_arm door))))
       ≡ set (seen door w s.n arms) (i - 1) (g (get_or (seen door w s.n arms) (i - 1) (no_arm door))) =
@@ -138,7 +140,7 @@ module _ {At : Type 0} (door : Table At) where
   value_same : (n : ℕ) (regs other : List ℕ) (a : Access) → InRoom door n a → SameUpTo (door.room n) regs other → value_read other a ≡ value_read regs a
   value_same n regs other a within same = grind (arith, same)
 
-  -- what is the same of them
+  -- what is equal where they stand alike
   progress_same : (w : Bool) (n : ℕ) (a b : Arm At) → trimmed w n b ≡ trimmed w n a → SameProgress n a b
   progress_same w n a b e = record {
     position = ap (λ (x : Arm At). x.position) (sym e);
@@ -148,7 +150,7 @@ module _ {At : Type 0} (door : Table At) where
     notes = λ k l. sym (get_or-take n a.notes k false l) ∙ ap (λ (x : Arm At). get_or x.notes k false) (sym e) ∙ get_or-take n b.notes k false l;
   }
 
-  pub same_but_marks : (w : Bool) (s t : State At) → Same w s t → SameButMarks door s t
+  pub same_but_marks : (w : Bool) (s t : State At) → StandAlike w s t → SameButMarks door s t
   same_but_marks w s t h = record {
     n = sym h.n;
     registers = λ some q l. sym (h.registers some q l);
@@ -166,12 +168,22 @@ module _ {At : Type 0} (door : Table At) where
       ]
 
 module _ {At : Type 0} (door : Table At) (shown : ShowsAccesses door) (some_room : (n : ℕ) → 1 ≤ door.room n) (w : Bool) where
-  read_same : (s t : State At) (i v : ℕ) → i - 1 < s.n → Same door w s t → seen door w s.n (arms_having_read door t i v) ≡ seen door w s.n (arms_having_read door s i v)
+  read_same : (s t : State At) (i v : ℕ) → i - 1 < s.n → StandAlike door w s t → seen door w s.n (arms_having_read door t i v) ≡ seen door w s.n (arms_having_read door s i v)
   read_same s t i v l h =
       ap (λ n. seen door w s.n (arms_having_read door (record t { n = n }) i v)) h.n
       ∙ seen_step door w s.n (i - 1) v l t.arms ∙ ap (step_seen door w s.n (i - 1) v) h.arms ∙ sym (seen_step door w s.n (i - 1) v l s.arms)
 
-  stepped_same : (s t : State At) (i : ℕ) → refusal_of door s (step i) ≡ None → Twins door w s t → Same door w (done door s (step i)) (done door t (step i))
+  access_same : (s t : State At) (i : ℕ) → refusal_of door s (step i) ≡ None → StandAlike door w s t → access_at door t i ≡ access_at door s i
+  access_same s t i e h = ap (λ (x : Arm At). door.access i (side_of x.side) x.position) (arm_same door w s t h i (grind (arith, nat_tests)))
+
+  -- an accepted step reads the same value
+  pub read_alike : (s t : State At) (i : ℕ) → refusal_of door s (step i) ≡ None → Twins door w s t → value_read t.regs (access_at door t i) ≡ value_read s.regs (access_at door s i)
+  read_alike s t i e h =
+      let r = known_arm s i (step_refusal (phase_at door s i)) e in
+      let regs = h.same.registers (let x = r.0 in let y = r.1 in omega arith) in
+      ap (value_read t.regs) (access_same s t i e h.same) ∙ same_at door _ _ (λ o. value_same door s.n s.regs t.regs (access_at door s i) (accesses_one door shown s i o e) regs) h.reached
+
+  stepped_same : (s t : State At) (i : ℕ) → refusal_of door s (step i) ≡ None → Twins door w s t → StandAlike door w (done door s (step i)) (done door t (step i))
   stepped_same s t i e h =
       let same = h.same in
       let r = known_arm s i (step_refusal (phase_at door s i)) e in
@@ -179,11 +191,10 @@ module _ {At : Type 0} (door : Table At) (shown : ShowsAccesses door) (some_room
       let below : i - 1 < s.n = (let x = r.0 in let y = r.1 in omega arith) in
       let regs = same.registers some in
       let a = access_at door s i in
-      let access : access_at door t i ≡ a = ap (λ (x : Arm At). door.access i (side_of x.side) x.position) (arm_same door w s t same i (grind (arith, nat_tests))) in
-      let value : value_read t.regs (access_at door t i) ≡ value_read s.regs a =
-      ap (value_read t.regs) access ∙ value_same door s.n s.regs t.regs a (accesses_one door shown s i h.origin e) regs in
-      let makes = from_origin door shown s i h.origin e in
-      let other_makes = subst (λ x. T (can_make t x)) access (from_origin door shown t i h.other (same_refusal door w s t (step i) same (grind arith) ∙ e)) in
+      let access : access_at door t i ≡ a = access_same s t i e same in
+      let value : value_read t.regs (access_at door t i) ≡ value_read s.regs a = read_alike s t i e h in
+      let makes = makes_reached door shown s i h.reached e in
+      let other_makes = subst (λ x. T (can_make t x)) access (makes_reached door shown t i h.other (same_refusal door w s t (step i) same (grind arith) ∙ e)) in
       record {
         number = same.number;
         n = same.n;
@@ -193,8 +204,8 @@ module _ {At : Type 0} (door : Table At) (shown : ShowsAccesses door) (some_room
         turns = (let turn = turn_same s t a (door.room s.n) makes other_makes regs (some_room s.n) in let turns = same.turns in cc);
       }
 
-  -- an accepted call leaves them the same
-  pub done_same : (s t : State At) (c : Call) → refusal_of door s c ≡ None → Twins door w s t → Same door w (done door s c) (done door t c)
+  -- after an accepted call they stand alike
+  pub done_same : (s t : State At) (c : Call) → refusal_of door s c ≡ None → Twins door w s t → StandAlike door w (done door s c) (done door t c)
   done_same s t (begin i) e h =
       let r = known_arm s i (begin_refusal (phase_at door s i) (arm_at door s i).visits) e in
       moved_same door w (λ a. with_visit door.entry (a.visits + 1) a.out a) (λ a. with_visit door.entry (a.visits + 1) a.out a) s t i (λ a. refl) (let x = r.0 in let y = r.1 in omega arith) h.same
@@ -209,8 +220,8 @@ module _ {At : Type 0} (door : Table At) (shown : ShowsAccesses door) (some_room
 
   pub after_twins : (s t : State At) (c : Call) → T (w || not (asks_mark c)) → Twins door w s t → Twins door w (after door s c) (after door t c)
   after_twins s t c m h = record {
-    same = subst (λ r. Same door w (after door s c) (unless r (done door t c) t)) (sym (same_refusal door w s t c h.same m))
-        (unless_same door (Same door w) (refusal_of door s c) (done door s c) s (done door t c) t (λ e. done_same s t c e h) h.same);
-    origin = origin_after door s c _ refl h.origin;
-    other = origin_after door t c _ refl h.other;
+    same = subst (λ r. StandAlike door w (after door s c) (unless r (done door t c) t)) (sym (same_refusal door w s t c h.same m))
+        (unless_same door (StandAlike door w) (refusal_of door s c) (done door s c) s (done door t c) t (λ e. done_same s t c e h) h.same);
+    reached = reached_after door s c _ refl h.reached;
+    other = reached_after door t c _ refl h.other;
   }

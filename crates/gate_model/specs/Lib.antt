@@ -18,4 +18,5 @@ pub mod Indexes
 pub mod Law
 pub mod Accesses
 pub mod SameButMarks
+pub mod SameGates
 pub mod Unbegun

@@ -1,12 +1,12 @@
 -- A play over another bank that gives the file as many arms comes to the same.
-use Rattle.std.proofs.Common.{◌≡◌, ℕ, zero, suc, ◌+◌, ◌<◌, ◌≤◌, max, true, List, ◌++◌, length, slice_index, Ok, Err, Result, sym, refl, ap, ap₂, ◌∙◌, arith}
+use Rattle.std.proofs.Common.{◌≡◌, ℕ, zero, suc, ◌+◌, ◌<◌, ◌≤◌, true, List, ◌++◌, length, Ok, Err, Result, sym, refl, ap, ap₂, ◌∙◌, arith}
 use Rattle.bank.specs.Lent.{Lent}
 use Rattle.gate_model.specs.Accesses.{ShowsAccesses}
-use Rattle.gate.specs.Answers.{largest_count}
 use Rattle.gate_model.specs.SameButMarks.{SameButMarks}
 use Rattle.gate_model.specs.States.{State, arm_at}
 use Rattle.gate_model.specs.Table.{Table}
 use Rattle.gate_model.proofs.Twins.{made_twins, same_but_marks, bit_same}
+use Rattle.gate.proofs.StaySame.{largest_same}
 use Rattle.schedule.specs.Reading.{Contents}
 use Rattle.schedule.specs.declared.fault.PlayFault.{PlayFault}
 use Rattle.obeying.specs.Obeying.{refusals}
@@ -18,10 +18,6 @@ use Rattle.play.specs.Text.{lines, overwritten}
 lines_same : (line other : ℕ → List ℕ) (n : ℕ) → ((k : ℕ) → k < n → other k ≡ line k) → lines other n ≡ lines line n
 lines_same line other zero same = refl
 lines_same line other (suc n) same = ap₂ (λ before last. before ++ last) (lines_same line other n (λ k l. same k (omega (arith, l)))) (same n (omega arith))
-
-largest_same : (row other : List ℕ) (n : ℕ) → ((k : ℕ) → k < n → slice_index row k ≡ slice_index other k) → largest_count other n ≡ largest_count row n
-largest_same row other zero same = refl
-largest_same row other (suc n) same = ap₂ max (largest_same row other n (λ k l. same k (omega (arith, l)))) (sym (same n (omega arith)))
 
 module _ {At : Type 0} (door : Table At) where
   -- the report of a gate that is the same but for its number and marks

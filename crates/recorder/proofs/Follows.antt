@@ -5,6 +5,7 @@ use Rattle.std.proofs.lemmas.List.{get_or-set_same}
 use Rattle.gate_model.specs.Accesses.{ShowsAccesses}
 use Rattle.gate_model.specs.Arms.{no_arm}
 use Rattle.gate_model.specs.Calls.{admit_refusal, refusal_of, knows, done, after, unless}
+use Rattle.gate_model.specs.History.{is_in}
 use Rattle.gate_model.specs.Phases.{same_phase}
 use Rattle.gate_model.specs.States.{State, is_arm, arm_at, phase_at}
 use Rattle.gate_model.specs.Table.{Table}
@@ -13,12 +14,13 @@ use Rattle.gate_model.specs.declared.call.Call.TheVariants.{Begin as begin, Step
 use Rattle.gate_model.specs.declared.phase.Phase.{Phase}
 use Rattle.gate_model.specs.declared.phase.Phase.TheVariants as P
 use Rattle.gate_model.proofs.Accepted.{unless_both, known_arm, arm_in, arm_is, leave_none}
+use Rattle.gate_model.proofs.Always.{true_at}
 use Rattle.gate_model.proofs.Bools.{and_T}
-use Rattle.gate_model.proofs.Bounds.{all_there}
-use Rattle.gate_model.proofs.Origins.{origin_after}
+use Rattle.gate_model.proofs.Bounds.{each_there}
+use Rattle.gate_model.proofs.Origins.{reached_after}
 use Rattle.gate_model.proofs.PassesInside.{pass_inside}
 use Rattle.gate_model.proofs.Seen.{mark_unseen}
-use Rattle.gate_model.proofs.Twins.{Same, Twins, same_refusal, arm_same, done_same, after_twins}
+use Rattle.gate_model.proofs.Twins.{StandAlike, Twins, same_refusal, arm_same, done_same, after_twins}
 use Rattle.gate_model.proofs.Unmarked.{Unmarked, unmarked_begun, unmarked_stepped, unmarked_left}
 use Rattle.obeying.specs.Obeying.{order_refusal, obeyed}
 use Rattle.schedule.specs.declared.order_number.Order.{Order}
@@ -41,7 +43,7 @@ module _ {At : Type 0} (door : Table At) where
   free_to_admit p o h e = grind arith
 
   -- an admit, which is not written, alters a mark
-  admitted_same : (s t : State At) (i : ℕ) → i - 1 < s.n → Same door false s t → Same door false (done door s (admit i)) t
+  admitted_same : (s t : State At) (i : ℕ) → i - 1 < s.n → StandAlike door false s t → StandAlike door false (done door s (admit i)) t
   admitted_same s t i l h = record {
     number = h.number;
     n = h.n;
@@ -53,10 +55,10 @@ module _ {At : Type 0} (door : Table At) where
   pub follows_admitted : (s t : State At) (i : ℕ) → Follows s t → Follows (after door s (admit i)) t
   follows_admitted s t i f = record {
     twins = record {
-      same = unless_both (refusal_of door s (admit i)) (done door s (admit i)) s (λ x. Same door false x t)
+      same = unless_both (refusal_of door s (admit i)) (done door s (admit i)) s (λ x. StandAlike door false x t)
           (λ e. let r = known_arm s i (admit_refusal (phase_at door s i) (arm_at door s i).out) e in
           admitted_same s t i (let lo = r.0 in let hi = r.1 in omega arith) f.twins.same) f.twins.same;
-      origin = origin_after door s (admit i) _ refl f.twins.origin;
+      reached = reached_after door s (admit i) _ refl f.twins.reached;
       other = f.twins.other;
     };
     unmarked = f.unmarked;
@@ -78,7 +80,7 @@ module _ {At : Type 0} (door : Table At) where
 
     inside : T (same_phase (phase_at door t i) P.F)
     inside = subst (λ (p : Phase). T (same_phase p P.F)) (sym (ap (λ a. door.phase a.position) (arm_same door false s t f.twins.same i in_first)))
-        (pass_inside door s f.twins.origin i (and_T (is_arm s i) _ known).1)
+        (true_at door (is_in door P.F s i) (λ o. pass_inside door s o i (and_T (is_arm s i) _ known).1) f.twins.reached)
 
     pub may_admit : refusal_of door t (admit i) ≡ None
     may_admit = let y = free_to_admit (phase_at door t i) (arm_at door t i).out inside (f.unmarked i) in let k = in_second in grind arith
@@ -87,7 +89,7 @@ module _ {At : Type 0} (door : Table At) where
     let_in = done door t (admit i)
 
     in_place : i - 1 < length t.arms
-    in_place = let there = all_there door t f.twins.other in let n = f.twins.same.n in let lo = reach.0 in let hi = reach.1 in omega arith
+    in_place = let there = each_there door t f.twins.other in let n = f.twins.same.n in let lo = reach.0 in let hi = reach.1 in omega arith
 
     may_leave : refusal_of door let_in (leave t.number i) ≡ None
     may_leave =
@@ -104,8 +106,8 @@ module _ {At : Type 0} (door : Table At) where
         registers = same.registers;
         turns = same.turns;
       });
-      origin = f.twins.origin;
-      other = origin_after door t (admit i) let_in (sym (accepted_is t (admit i) may_admit)) f.twins.other;
+      reached = f.twins.reached;
+      other = reached_after door t (admit i) let_in (sym (accepted_is t (admit i) may_admit)) f.twins.other;
     }
 
     obeyed_is : obeyed door t (Leave i) ≡ done door let_in (leave t.number i)
@@ -137,10 +139,10 @@ module _ {At : Type 0} (door : Table At) (shown : ShowsAccesses door) (some_room
         admitted,
         record {
           twins = record {
-            same = subst (λ z. Same door false z (obeyed door t (Leave i))) (sym (accepted_is door s (leave g i) e))
-                (subst (Same door false (done door s (leave g i))) (sym (obeyed_is door s t g i e f)) (done_same door shown some_room false s x (leave g i) e twins));
-            origin = origin_after door s (leave g i) _ refl f.twins.origin;
-            other = origin_after door (after door t (admit i)) (leave t.number i) _ last (origin_after door t (admit i) _ refl f.twins.other);
+            same = subst (λ z. StandAlike door false z (obeyed door t (Leave i))) (sym (accepted_is door s (leave g i) e))
+                (subst (StandAlike door false (done door s (leave g i))) (sym (obeyed_is door s t g i e f)) (done_same door shown some_room false s x (leave g i) e twins));
+            reached = reached_after door s (leave g i) _ refl f.twins.reached;
+            other = reached_after door (after door t (admit i)) (leave t.number i) _ last (reached_after door t (admit i) _ refl f.twins.other);
           };
           unmarked = subst (λ z. Unmarked door z.arms) (sym last) (unmarked_left door t i admitted f.unmarked);
         },

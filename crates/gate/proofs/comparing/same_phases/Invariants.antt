@@ -1,6 +1,0 @@
-use Rattle.std.proofs.Common.{◌≡◌, ℕ, ◌<◌, get_or}
-use Rattle.gate_model.specs.Arms.{no_arm}
-use Rattle.gate.proofs.comparing.same_phases.Given as goal
-
-abbrev pub invariant-loop-k : goal.invariant-loop-k
-invariant-loop-k g l = (j : ℕ) → j < l.k → g.D.Door.table.phase (get_or l.a j (no_arm g.D.Door.table)).position ≡ g.D.Door.table.phase (get_or l.b j (no_arm g.D.Door.table)).position
